@@ -1,0 +1,12 @@
+pub mod Chained
+pub mod Clean
+pub mod Cuts
+pub mod Figures
+pub mod Grown
+pub mod Headers
+pub mod Heads
+pub mod Lines
+pub mod Means
+pub mod Minus
+pub mod Spaces
+pub mod Spelled
