@@ -7,6 +7,8 @@ use native.Mathlib.Omega.{arith}
 use lib.IntN.{ℤ, pos, negsuc}
 use lib.ListN.{length, getD, take, length-take}
 use lib.Signed.{mag}
+use mir.Syntax.{w32}
+use mir.Val.{toZ, ofZ}
 use Rattle.std.specs.Reads.{value, Digits}
 use Rattle.std.specs.Text.{In}
 use Rattle.std.specs.Written.{decimal, signed}
@@ -14,8 +16,9 @@ use Rattle.std.proofs.str.Laws.{order}
 use Rattle.std.proofs.shelf.Decimals.{decimal-some, length-decimal-le, first-decimal, decimal-digit, digits-decimal, value-decimal, decimal-value, same-from-decimal, same-from-signed}
 use Rattle.std.proofs.shelf.Digits.{value-more, digits-more}
 use Rattle.std.proofs.shelf.Numerals.{Numerals, numerals-by-value, tells-digits, value-short}
+use Rattle.std.proofs.shelf.Signed.{ints}
 use Rattle.std.proofs.shelf.Text.{digitValue-digit}
-use Rattle.text.specs.Figures.{Nine, Writes, WritesSigned}
+use Rattle.text.specs.Figures.{Nine, Writes}
 
 pub own : Numerals (Digits 10) (value 10)
 own = numerals-by-value (Digits 10) tells-digits
@@ -65,3 +68,8 @@ small (negsuc n) h = omega arith
 
 pub signed-once : (y z : ℤ) → Nine y → Nine z → signed y ≡ signed z → y ≡ z
 signed-once y z p q e = same-from-signed y z (omega (arith, small y p)) (omega (arith, small z q)) e
+
+-- such a number fits 32 bits
+pub nine-back : (z : ℤ) → Nine z → toZ w32 (ofZ w32 z) ≡ z
+nine-back (pos n) h = omega (arith, ints)
+nine-back (negsuc n) h = omega (arith, ints)

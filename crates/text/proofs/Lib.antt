@@ -5,6 +5,7 @@ pub mod Figures
 pub mod Grown
 pub mod Headers
 pub mod Heads
+pub mod Lengths
 pub mod Lines
 pub mod Means
 pub mod Minus

@@ -1,13 +1,10 @@
 -- The first line of a text.
-use mathlib.Core.Path.{_≡_, refl, sym, ap, subst, _∙_}
+use mathlib.Core.Path.{_≡_, refl, sym, _∙_}
 use mathlib.Core.List.{List, [], _∷_, _++_, append-assoc}
 use Prim.Native.Nat.{ℕ}
-use Rattle.text.specs.Words.{Lacks, CutAt, Words, Spaced, spaced, NotOf, Begins, NoLine, line}
+use Rattle.text.specs.Words.{Lacks, CutAt, spaced, NotOf, Begins, NoLine, line}
 use Rattle.text.proofs.Cuts.{cut-once, no-cut}
 use Rattle.text.proofs.Spaces.{pieces-once}
-
-pub begins : {text l rest : List ℕ} {ws : List (List ℕ)} → CutAt 10 text l rest → Spaced l ws → Begins text ws rest
-begins {text} {l} {rest} c s = record { cut = subst (λ (x : List ℕ). CutAt 10 text x rest) (s .whole) c; words = s .words }
 
 pub no-line : {text l rest : List ℕ} {k : ℕ} → CutAt 10 text l rest → NotOf k l → NoLine k text
 no-line c none ws r long b = none ws long (record { whole = cut-once c (b .cut) .0; words = b .words })

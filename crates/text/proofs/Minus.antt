@@ -11,7 +11,7 @@ use Rattle.std.specs.Written.{decimal}
 use Rattle.std.proofs.shelf.Numerals.{digit-at}
 use Rattle.std.proofs.shelf.Parts.{first-rest}
 use Rattle.std.proofs.shelf.Signed.{ints}
-use Rattle.text.specs.Figures.{Nine, Writes, WritesSigned}
+use Rattle.text.specs.Figures.{Writes, WritesSigned}
 use Rattle.text.proofs.Figures.{figures, number-once}
 
 pub tail : (t : List ℕ) (b : ℕ) → 0 < length t → getD t 0 0 ≡ b → t ≡ b ∷ take (length t - 1) (drop 1 t)

@@ -1,10 +1,10 @@
 -- Where a line is so many pieces, and where not.
 use mathlib.Core.Path.{_≡_, refl, sym, ap, subst, _∙_}
-use mathlib.Core.List.{List, [], _∷_, _++_}
-use Prim.Native.Nat.{ℕ, suc, _+_, _≤_, _<_}
+use mathlib.Core.List.{List, [], _∷_}
+use Prim.Native.Nat.{ℕ, _+_, _≤_}
 use native.Mathlib.Omega.{arith}
-use lib.ListN.{length, getD}
-use Rattle.text.specs.Words.{Lacks, CutAt, Word, Words, Spaced, spaced, Begun, NotOf}
+use lib.ListN.{length}
+use Rattle.text.specs.Words.{Lacks, CutAt, Word, Spaced, spaced, Begun, NotOf}
 use Rattle.text.proofs.Cuts.{cut-once, no-cut}
 
 abbrev pub NotBegun : List ℕ → Type 0
@@ -37,13 +37,6 @@ not-more k h b none [] l s = absurd (omega arith)
 not-more k h b none (a ∷ []) l s = absurd (omega arith)
 not-more k h b none (a ∷ v ∷ ws) l s =
     none (v ∷ ws) (omega arith) (record { whole = cut-once (b .cut) (begun-of s .cut) .1; words = s .words .1 })
-
--- a piece, a space, and the pieces of what follows
-pub joined : {t w r v : List ℕ} {ws : List (List ℕ)} → Begun t w r → Spaced r (v ∷ ws) → Spaced t (w ∷ v ∷ ws)
-joined {t} {w} b s = record {
-  whole = b .cut .is ∙ ap (λ (x : List ℕ). w ++ 32 ∷ x) (s .whole);
-  words = (record { some = b .some; plain = b .cut .first }, s .words);
-}
 
 not-empty : (v : List ℕ) (vs : List (List ℕ)) → Spaced [] (v ∷ vs) → ⊥
 not-empty v [] s = omega (arith, ap length (s .whole), s .words .0 .some)

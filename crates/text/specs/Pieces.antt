@@ -5,7 +5,7 @@ use Prim.Native.Nat.{ℕ}
 use lib.IntN.{ℤ, pos, negsuc}
 use Rattle.std.specs.declared.option.Option.{Option}
 use Rattle.std.specs.declared.option.Option.the-variants.{None, Some}
-use Rattle.text.specs.Figures.{WritesSigned}
+use Rattle.text.specs.Figures.{TellsSigned}
 use Rattle.text.specs.Words.{Spaced, NotOf}
 use Rattle.text.specs.declared.pieces.Piece.{Piece}
 use Rattle.text.specs.declared.pieces.Piece.the-variants.{Word, Number}
@@ -31,31 +31,34 @@ unsignedOf (Word t l) = None
 unsignedOf (Number t l (pos n)) = Some n
 unsignedOf (Number t l (negsuc n)) = None
 
--- a number where the text writes one, else a word
+-- a number where its text writes one, else a word
 abbrev pub Right : Piece → Type 0
-Right (Word t l) = (z : ℤ) → WritesSigned (t .now) z → ⊥
-Right (Number t l z) = WritesSigned (t .now) z
+Right p = TellsSigned (said p) (signedOf p)
 
 -- it stands on this line, and is right
 pub record Sound (at : ℕ) (p : Piece) : Type 0 where
   pub stands : lineOf p ≡ at
   pub right : Right p
 
+-- so is each of these
 abbrev pub Sounds : ℕ → List Piece → Type 0
 Sounds at [] = Unit {0}
 Sounds at (p ∷ ps) = Sound at p × Sounds at ps
 
+-- what these say, in order
 abbrev pub texts : List Piece → List (List ℕ)
 texts [] = []
 texts (p ∷ ps) = said p ∷ texts ps
 
--- two, three and four pieces, in order
+-- two pieces, in order
 abbrev pub of2 : Piece × Piece → List Piece
 of2 p = p .0 ∷ p .1 ∷ []
 
+-- three
 abbrev pub of3 : Piece × Piece × Piece → List Piece
 of3 p = p .0 ∷ p .1 ∷ p .2 ∷ []
 
+-- four
 abbrev pub of4 : Piece × Piece × Piece × Piece → List Piece
 of4 p = p .0 ∷ p .1 ∷ p .2 ∷ p .3 ∷ []
 

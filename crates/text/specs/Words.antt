@@ -19,6 +19,7 @@ pub record Word (w : List ℕ) : Type 0 where
   pub some : 0 < length w
   pub plain : Lacks 32 w
 
+-- each of these is one
 abbrev pub Words : List (List ℕ) → Type 0
 Words [] = Unit {0}
 Words (w ∷ ws) = Word w × Words ws

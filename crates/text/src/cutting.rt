@@ -4,7 +4,7 @@ ghost use Rattle.std.specs.Orderings.{Decides};
 ghost use Rattle.text.specs.Words.{Lacks, CutAt};
 ghost use mathlib.Core.Path.{_≡_};
 
-// What stands before the first `at` and after it; None where there is none.
+// What stands before the first `at` and after it, where there is one.
 pub fn cut(text: &[u8], at: u8) -> Option<(&[u8], &[u8])>
     ensures { λ r. ⌜ Cases r (Lacks at (now (text .entry))) (λ p. CutAt at (now (text .entry)) (now (p .0)) (now (p .1))) ⌝ }
 {

@@ -1,12 +1,9 @@
 // Numbers on a page: decimal, no leading zero, no plus sign, at most nine digits.
-ghost use Prim.Native.Nat.{ℕ};
-ghost use Rattle.std.specs.Options.{Cases};
-ghost use Rattle.text.specs.Figures.{Writes, WritesSigned};
-ghost use lib.IntN.{ℤ};
+ghost use Rattle.text.specs.Figures.{Tells, TellsSigned};
 
 // The number that `text` writes, where it writes one.
 pub fn number(text: &[u8]) -> Option<u32>
-    ensures { λ r. ⌜ Cases r ((n : ℕ) → Writes (now (text .entry)) n → ⊥) (Writes (now (text .entry))) ⌝ }
+    ensures { λ r. ⌜ Tells (now (text .entry)) r ⌝ }
 {
     if text.is_empty() || text.len() > 9 {
         return None;
@@ -26,7 +23,7 @@ pub fn number(text: &[u8]) -> Option<u32>
 
 // The same with a minus sign, which does not stand before 0.
 pub fn signed_number(text: &[u8]) -> Option<i32>
-    ensures { λ r. ⌜ Cases r ((z : ℤ) → WritesSigned (now (text .entry)) z → ⊥) (WritesSigned (now (text .entry))) ⌝ }
+    ensures { λ r. ⌜ TellsSigned (now (text .entry)) r ⌝ }
 {
     if let [b'-', digits @ ..] = text {
         let n = number(digits)?;

@@ -1,5 +1,5 @@
 use native.Mathlib.Omega.{arith}
-use Rattle.text.proofs.Spaces.{joined, not-begun, not-more}
+use Rattle.text.proofs.Spaces.{not-begun, not-more}
 use Rattle.text.proofs.pieces.four.Needs as need
 
 pub returns-in-Break-p : need.returns-in-Break-p
@@ -7,9 +7,3 @@ returns-in-Break-p c = rw (c .from-residual .ensures) (not-begun 4 _ (omega arit
 
 pub returns-in-Break-q : need.returns-in-Break-q
 returns-in-Break-q c = rw (c .from-residual-in-Break-q .ensures) (not-more 3 (omega arith) (c .in-Continue-p .ensures tt .0) (c .in-Break-q .ensures tt))
-
-pub returns : need.returns
-returns c =
-    let begun = c .in-Continue-p .ensures tt in
-    let pieces = c .in-Continue-q .ensures tt in
-    (joined (begun .0) (pieces .0), (begun .1, pieces .1))

@@ -1,7 +1,7 @@
 use mathlib.Core.Path.{refl}
 use native.Mathlib.Omega.{arith}
 use Rattle.text.proofs.Cuts.{shorter}
-use Rattle.text.proofs.Lines.{begins, no-line, no-end}
+use Rattle.text.proofs.Lines.{no-line, no-end}
 use Rattle.text.proofs.cursor.Cursor.line_of_three.Needs as need
 
 pub returns-in-Break-line : need.returns-in-Break-line
@@ -12,8 +12,3 @@ returns-in-Break-pieces c = rw (c .from-residual-in-Break-pieces .ensures) (no-l
 
 pub ghost-self : need.ghost-self
 ghost-self c = let h = shorter (c .in-Continue-line .ensures tt) in (omega arith, tt)
-
-pub returns : need.returns
-returns c =
-    let pieces = c .in-Continue-pieces .ensures tt in
-    record { begins = begins (c .in-Continue-line .ensures tt) (pieces .0); count = refl; sound = pieces .1 }
