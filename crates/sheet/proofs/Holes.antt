@@ -23,8 +23,8 @@ use Rattle.parts.specs.declared.fault.Fault.{Fault}
 use Rattle.sheet.specs.Account.{Line, first}
 use Rattle.sheet.specs.Calls.{crowd-line, hole-fault, put-fault-by}
 use Rattle.parts.specs.Sizes.{diameter-of}
-use Rattle.parts.specs.Holes.{before, apart, gap, placed, drilled}
-use Rattle.sheet.specs.Law.{lawful, none, each, pairs, crowding, add}
+use Rattle.parts.specs.Holes.{before, apart, gap, placed, drilled, centred}
+use Rattle.sheet.specs.Law.{lawful, none, each, pairs, crowding, add, without}
 
 -- without holes the law holds
 pub law-none : (bar : Option Bar) (bolt : Option Bolt) (hs : List Hole) → none hs ≡ true → lawful bar bolt hs ≡ true
@@ -39,6 +39,18 @@ each-add p h [] e f = and-from _ _ e refl
 each-add p h (k ∷ ks) e f =
     let both = and-parts (p k) (each p ks) f in
     cond-both (before k h) _ _ (λ l. each p l ≡ true) (λ t. and-from _ _ (both .0) (each-add p h ks e (both .1))) (λ t. and-from _ _ e f)
+
+each-without : (p : Hole → Bool) (x y : ℕ) (hs : List Hole) → each p hs ≡ true → each p (without x y hs) ≡ true
+each-without p x y [] f = refl
+each-without p x y (k ∷ ks) f =
+    let both = and-parts (p k) (each p ks) f in
+    cond-both (centred x y k) _ _ (λ l. each p l ≡ true) (λ t. both .1) (λ t. and-from _ _ (both .0) (each-without p x y ks (both .1)))
+
+pub pairs-without : (r : Hole → Hole → Bool) (x y : ℕ) (hs : List Hole) → pairs r hs ≡ true → pairs r (without x y hs) ≡ true
+pairs-without r x y [] f = refl
+pairs-without r x y (k ∷ ks) f =
+    let both = and-parts (each (r k) ks) (pairs r ks) f in
+    cond-both (centred x y k) _ _ (λ l. pairs r l ≡ true) (λ t. both .1) (λ t. and-from _ _ (each-without (r k) x y ks (both .0)) (pairs-without r x y ks (both .1)))
 
 gap-sym : (m n : ℕ) → gap m n ≡ gap n m
 gap-sym m n = add-comm (m - n) (n - m)
@@ -127,6 +139,21 @@ law-add bar bolt h hs p free law =
     let a = and-parts (each (fits bar bolt) hs) (pairs before hs && pairs (apart d) hs) law in
     let b = and-parts (pairs before hs) (pairs (apart d) hs) (a .1) in
     and-from _ _ (each-add (fits bar bolt) h hs p (a .0)) (and-from _ _ (numbered-add h hs (others d h hs (diameter-of-pos (bolt .size)) far) (b .0)) (spaced-add d h hs far (b .1)))
+
+none-without : (x y : ℕ) (hs : List Hole) → none hs ≡ true → none (without x y hs) ≡ true
+none-without x y [] e = refl
+none-without x y (k ∷ ks) e = grind (arith, tells)
+
+-- one hole fewer keeps the law
+pub law-without : (bar : Option Bar) (bolt : Option Bolt) (x y : ℕ) (hs : List Hole) → lawful bar bolt hs ≡ true → lawful bar bolt (without x y hs) ≡ true
+unfolding lawful
+law-without None bolt x y hs law = none-without x y hs law
+law-without (Some bar) None x y hs law = none-without x y hs law
+law-without (Some bar) (Some bolt) x y hs law =
+    let d = diameter-of (bolt .size) in
+    let a = and-parts (each (fits bar bolt) hs) (pairs before hs && pairs (apart d) hs) law in
+    let b = and-parts (pairs before hs) (pairs (apart d) hs) (a .1) in
+    and-from _ _ (each-without (fits bar bolt) x y hs (a .0)) (and-from _ _ (pairs-without before x y hs (b .0)) (pairs-without (apart d) x y hs (b .1)))
 
 first-none : (b : Bool) (f : Fault) (rest : Option Fault) → cond b (Some f) rest ≡ None → (b ≡ false) × (rest ≡ None)
 first-none true f rest e = absurd (grind (arith, e))

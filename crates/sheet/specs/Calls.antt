@@ -1,10 +1,11 @@
 -- Each call: when it is refused, and the account that it leaves where it is accepted.
-use mathlib.Core.Bool.{Bool, true, not, _&&_}
-use mathlib.Core.List.{List, [], _∷_}
-use Prim.Native.Nat.{ℕ}
+use mathlib.Core.Path.{_≡_}
+use mathlib.Core.Bool.{Bool, true, false, not, _&&_}
+use mathlib.Core.List.{List, [], _∷_, _++_}
+use Prim.Native.Nat.{ℕ, _+_, _<_}
 use lib.Dec.{leb}
 use lib.IntN.{ℤ}
-use lib.ListN.{length, set}
+use lib.ListN.{length, set, take, drop}
 use Rattle.std.specs.Options.{isSome, mapped}
 use Rattle.std.specs.declared.option.Option.{Option}
 use Rattle.std.specs.declared.option.Option.the-variants.{Some, None}
@@ -14,14 +15,14 @@ use Rattle.parts.specs.declared.bar.Bar.{Bar}
 use Rattle.parts.specs.declared.bolt.Bolt.{Bolt}
 use Rattle.parts.specs.declared.load.LoadKind.{LoadKind}
 use Rattle.parts.specs.declared.fault.Fault.{Fault}
-use Rattle.parts.specs.declared.fault.Fault.the-variants.{OutOfRange, UnknownSteel, UnknownSize, HolesStand, NoBarOrBolt, Full, DiameterOutside, CentreOutside, TooClose, UnknownLoad, LoadOutOfRange, NoHoles}
+use Rattle.parts.specs.declared.fault.Fault.the-variants.{OutOfRange, UnknownSteel, UnknownSize, HolesStand, NoBarOrBolt, Full, DiameterOutside, CentreOutside, TooClose, NoHoleThere, UnknownLoad, LoadOutOfRange, NoHoles}
 use Rattle.parts.specs.Holes.{placed, drilled}
 use Rattle.parts.specs.LoadKinds.{kind-of, kind-number}
 use Rattle.parts.specs.Ranges.{bar-ranges, bolt-ranges}
 use Rattle.parts.specs.Sizes.{diameter-of, size-of}
 use Rattle.parts.specs.Steels.{steel-of}
 use Rattle.sheet.specs.Account.{Account, Line, first, Settled}
-use Rattle.sheet.specs.Law.{none, holds, crowding, add, bearable}
+use Rattle.sheet.specs.Law.{none, holds, crowding, add, has-centre, without, bearable}
 
 -- ---- bar
 
@@ -88,6 +89,22 @@ with-hole a h = record { bar = a .bar; bolt = a .bolt; holes = add h (a .holes);
 
 abbrev pub Puts : Account → ℕ → ℕ → ℕ → Result (Unit {0}) Fault → Account → Type 0
 Puts a x y d r b = Settled (put-fault a (hole-at x y d)) a (with-hole a (hole-at x y d)) r b
+
+-- ---- take
+
+abbrev pub take-fault : Account → ℕ → ℕ → Option Fault
+take-fault a x y = first ((NoHoleThere, not (has-centre x y (a .holes))) ∷ [])
+
+abbrev pub without-hole : Account → ℕ → ℕ → Account
+without-hole a x y = record { bar = a .bar; bolt = a .bolt; holes = without x y (a .holes); loads = a .loads }
+
+abbrev pub Takes : Account → ℕ → ℕ → Result (Unit {0}) Fault → Account → Type 0
+Takes a x y r b = Settled (take-fault a x y) a (without-hole a x y) r b
+
+-- inner: the place of the hole whose centre is (x, y); without it are those before and those after it
+abbrev pub Found : ℕ → ℕ → List Hole → Option ℕ → Type 0
+Found x y hs None = has-centre x y hs ≡ false
+Found x y hs (Some i) = (i < length hs) × (has-centre x y hs ≡ true) × (without x y hs ≡ take i hs ++ drop (i + 1) hs)
 
 -- ---- load
 

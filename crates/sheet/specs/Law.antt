@@ -1,5 +1,5 @@
 -- What holds of the holes and loads of every sheet. Tests over plain data, since the sheet's type cites them.
-use mathlib.Core.Bool.{Bool, true, false, _&&_, cond}
+use mathlib.Core.Bool.{Bool, true, false, _&&_, _||_, cond}
 use mathlib.Core.List.{List, [], _∷_}
 use Prim.Native.Nat.{ℕ, _+_}
 use lib.IntN.{ℤ, pos, negsuc}
@@ -11,7 +11,7 @@ use Rattle.std.specs.declared.option.Option.the-variants.{Some, None}
 use Rattle.parts.specs.declared.hole.Hole.{Hole}
 use Rattle.parts.specs.declared.bar.Bar.{Bar}
 use Rattle.parts.specs.declared.bolt.Bolt.{Bolt}
-use Rattle.parts.specs.Holes.{before, apart, placed, drilled}
+use Rattle.parts.specs.Holes.{before, apart, placed, drilled, centred}
 use Rattle.parts.specs.Sizes.{diameter-of}
 
 -- the test passes at each hole
@@ -53,6 +53,16 @@ crowding d h (k ∷ ks) n = cond (apart d k h) (crowding d h ks (n + 1)) (Some n
 abbrev pub add : Hole → List Hole → List Hole
 add h [] = h ∷ []
 add h (k ∷ ks) = cond (before k h) (k ∷ add h ks) (h ∷ k ∷ ks)
+
+-- whether a hole has its centre at (x, y)
+abbrev pub has-centre : ℕ → ℕ → List Hole → Bool
+has-centre x y [] = false
+has-centre x y (k ∷ ks) = centred x y k || has-centre x y ks
+
+-- the holes without the one whose centre is (x, y)
+abbrev pub without : ℕ → ℕ → List Hole → List Hole
+without x y [] = []
+without x y (k ∷ ks) = cond (centred x y k) ks (k ∷ without x y ks)
 
 -- a load from −10,000,000 to 10,000,000
 abbrev pub bearable : ℤ → Bool

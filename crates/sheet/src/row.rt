@@ -1,8 +1,10 @@
-// Holes in a row, in number order: which is too close to a new one, and the row with one more.
+// Holes in a row, in number order: which is too close to a new one, and the row with one more or one fewer.
 ghost use mathlib.Core.Path.{_≡_};
-ghost use Prim.Native.Nat.{_<_, _≤_, _+_};
-ghost use lib.ListN.{length, take};
-ghost use Rattle.parts.specs.Holes.{before};
+ghost use mathlib.Core.Bool.{not};
+ghost use mathlib.Core.List.{_++_};
+ghost use Prim.Native.Nat.{_<_, _≤_, _+_, _-_};
+ghost use lib.ListN.{length, take, drop};
+ghost use Rattle.parts.specs.Holes.{before, centred};
 ghost use Rattle.sheet.specs.Law.{crowding, front, add};
 ghost use Rattle.sheet.specs.Calls.{hole-fault};
 use parts::bar::Bar;
@@ -68,5 +70,31 @@ pub(crate) fn with_hole(mut holes: [Hole; 32], count: usize, hole: Hole) -> [Hol
     holes[count] = hole;
     let moved = &mut holes[place..count + 1];
     moved.rotate_right(1);
+    holes
+}
+
+// How many holes come before the one whose centre is there; all of them where there is none.
+pub(crate) fn place_at(holes: &[Hole], x: u32, y: u32) -> usize
+    ensures within { λ r. ⌜ r ≤ length (now (holes .entry)) ⌝ }
+    ensures value { λ r. ⌜ r ≡ front (λ k. not (centred x y k)) (now (holes .entry)) ⌝ }
+{
+    let mut place = 0;
+    for other in holes {
+        if other.is_at(x, y) {
+            return place;
+        }
+        place += 1;
+    }
+    place
+}
+
+pub(crate) fn without_hole(mut holes: [Hole; 32], count: usize, place: usize) -> [Hole; 32]
+    requires few { ⌜ count ≤ 32 ⌝ }
+    requires within { ⌜ place < count ⌝ }
+    ensures long { λ r. ⌜ length r ≡ 32 ⌝ }
+    ensures row { λ r. ⌜ take (count - 1) r ≡ take place (take count holes) ++ drop (place + 1) (take count holes) ⌝ }
+{
+    let moved = &mut holes[place..count];
+    moved.rotate_left(1);
     holes
 }

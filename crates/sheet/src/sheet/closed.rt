@@ -1,6 +1,7 @@
 // A closed sheet.
 ghost use mathlib.Core.Path.{_≡_};
 use super::Sheet;
+use super::open::Open;
 
 #[derive(Drop)]
 pub struct Closed {
@@ -8,6 +9,13 @@ pub struct Closed {
 }
 
 impl Closed {
+    pub fn reopen(self) -> Open
+        ensures { λ r. ⌜ r .sheet ≡ self .sheet ⌝ }
+    {
+        let Closed { sheet } = self;
+        Open { sheet }
+    }
+
     pub fn sheet(&self) -> &Sheet
         ensures { λ r. ⌜ now r ≡ now (self .entry) .sheet ⌝ }
     {

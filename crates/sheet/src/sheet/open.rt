@@ -2,12 +2,13 @@
 ghost use mathlib.Core.Path.{_≡_};
 ghost use Rattle.std.specs.declared.result.Result.the-variants.{Ok};
 ghost use Rattle.sheet.specs.Account.{blank};
-ghost use Rattle.sheet.specs.Calls.{Bars, Bolts, Loads, Puts, hole-at};
+ghost use Rattle.sheet.specs.Calls.{Bars, Bolts, Loads, Puts, Takes, hole-at};
 ghost use Rattle.sheet.specs.Kept.{account, open-account};
-ghost use Rattle.sheet.specs.Numbering.{Joins};
+ghost use Rattle.sheet.specs.Numbering.{Joins, Leaves};
 use super::Sheet;
 use super::closed::Closed;
 use crate::row::with_hole;
+use crate::row::without_hole;
 use parts::bar::Bar;
 use parts::bolt::Bolt;
 use parts::bolt::Size;
@@ -19,7 +20,7 @@ use parts::steel::Steel;
 
 #[derive(Drop)]
 pub struct Open {
-    sheet: Sheet,
+    pub(crate) sheet: Sheet,
 }
 
 const NO_HOLE: Hole = Hole {
@@ -112,6 +113,23 @@ impl Open {
             bolt: self.sheet.bolt,
             holes: with_hole(self.sheet.holes, self.sheet.count, hole),
             count: self.sheet.count + 1,
+            loads: self.sheet.loads,
+        };
+        Ok(())
+    }
+
+    pub fn take(&mut self, x: u32, y: u32) -> Result<(), Fault>
+        ensures settled { λ r. ⌜ Takes (open-account (now (self .entry))) x y r (open-account (now (self .exit))) ⌝ }
+        ensures leaves { λ r. ⌜ (r ≡ Ok tt → Leaves x y (open-account (now (self .entry)) .holes) (open-account (now (self .exit)) .holes)) ⌝ }
+    {
+        let Some(place) = self.sheet.find(x, y) else {
+            return Err(Fault::NoHoleThere);
+        };
+        self.sheet = Sheet {
+            bar: self.sheet.bar,
+            bolt: self.sheet.bolt,
+            holes: without_hole(self.sheet.holes, self.sheet.count, place),
+            count: self.sheet.count - 1,
             loads: self.sheet.loads,
         };
         Ok(())

@@ -1,10 +1,11 @@
 // What a sheet is asked by its calls.
 ghost use mathlib.Core.Path.{_≡_};
-ghost use Rattle.sheet.specs.Calls.{put-fault};
+ghost use Rattle.sheet.specs.Calls.{put-fault, Found};
 ghost use Rattle.sheet.specs.Kept.{account};
 ghost use Rattle.sheet.specs.Law.{none};
 use super::Sheet;
 use crate::row::hole_fault;
+use crate::row::place_at;
 use parts::fault::Fault;
 use parts::hole::Hole;
 
@@ -33,5 +34,17 @@ impl Sheet {
             return Some(Fault::NoBarOrBolt);
         };
         hole_fault(&bar, &bolt, self.row(), hole)
+    }
+
+    // The place of the hole whose centre is there.
+    pub(crate) fn find(&self, x: u32, y: u32) -> Option<usize>
+        ensures { λ r. ⌜ Found x y (account (now (self .entry)) .holes) r ⌝ }
+    {
+        let place = place_at(self.row(), x, y);
+        if place < self.count {
+            Some(place)
+        } else {
+            None
+        }
     }
 }
