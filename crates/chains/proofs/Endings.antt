@@ -6,14 +6,14 @@ use Prim.Native.Nat.{ℕ, zero, suc, _+_, _≤_, _<_}
 use native.Mathlib.Omega.{arith}
 use borrow.Author.Differences.{ints}
 use borrow.Author.Count.{below-more}
-use lib.IntN.{ℤ, pos, _+ℤ_}
-use lib.ListN.{length, getD, set, length-set}
+use lib.IntN.{ℤ}
+use lib.ListN.{length, set, length-set}
 use lib.Seq.{getD-set-same, getD-set-other}
 use lib.Signed.{_≤ℤ_}
 use Rattle.std.proofs.shelf.Tests.{cases-lt}
 use Rattle.parts.specs.declared.hole.Hole.{Hole}
 use Rattle.chains.specs.declared.search.Step.{Step}
-use Rattle.chains.specs.Chains.{the, Chain, width}
+use Rattle.chains.specs.Chains.{Chain, width}
 use Rattle.chains.specs.Least.{NoLater}
 use Rattle.chains.specs.Search.{Ready, no-step, net-at, back, Follows, May, reach, Picks, Fine, Ending, Tells, Full}
 use Rattle.chains.proofs.Basics.{real, head, early}

@@ -1,11 +1,11 @@
 -- What holds of every joint, for those who build on its net width and its least chain.
 use mathlib.Core.Path.{_≡_, sym, ap, subst, _∙_}
-use mathlib.Core.List.{List, [], _∷_, reverse}
+use mathlib.Core.List.{List, [], _∷_, reverse, reverse-reverse}
 use mathlib.Core.Logic.{⊎-elim}
-use Prim.Native.Nat.{ℕ, _+_, _*_, _≤_, _<_}
+use Prim.Native.Nat.{ℕ, _*_, _≤_, _<_}
 use native.Mathlib.Omega.{arith}
 use borrow.Author.Differences.{ints}
-use lib.IntN.{ℤ, pos, negsuc, _+ℤ_}
+use lib.IntN.{ℤ, pos, negsuc}
 use lib.ListN.{length, getD}
 use lib.Signed.{_≤ℤ_}
 use Rattle.std.specs.shelf.Lists.{All}
@@ -17,6 +17,7 @@ use Rattle.parts.specs.declared.bolt.Size.the-variants.{M16, M20, M22, M24}
 use Rattle.parts.specs.Sizes.{diameter-of}
 use Rattle.sheet.specs.Details.{Details, Sound, Before, no-hole}
 use Rattle.chains.specs.Chains.{Chain}
+use Rattle.chains.specs.Least.{Least}
 use Rattle.chains.specs.NetWidth.{net-width}
 use Rattle.chains.specs.Search.{Ready}
 use Rattle.chains.specs.Slips.{told, Named}
@@ -38,7 +39,6 @@ pub ready : (d : Details) → Sound d → Ready (d .bar .width) (d .holes)
 ready d s =
     record {
       narrow = s .width .1;
-      some = s .some;
       few = s .few;
       far = λ k h. s .placed k h .x-high;
       small = λ k h. omega (arith, s .drilled k h .high, diameter-most (d .bolt .size));
@@ -50,10 +50,11 @@ ready d s =
 
 module _ (d : Details) (s : Sound d) where
   -- the net width in µm
-  pub net-bounds : (negsuc 1087999 ≤ℤ net-width (d .bar .width) (d .holes)) × (net-width (d .bar .width) (d .holes) ≤ℤ pos (1000 * d .bar .width))
+  pub net-bounds : (negsuc 1087999 ≤ℤ net-width (d .bar .width) (d .holes)) × (net-width (d .bar .width) (d .holes) ≤ℤ pos 1000000)
   net-bounds =
       let low = net-above (d .bar .width) (d .holes) (ready d s) in
-      (omega (arith, ints), net-under (d .bar .width) (d .holes) (ready d s))
+      let high = net-under (d .bar .width) (d .holes) (ready d s) in
+      (omega (arith, ints), omega (arith, ints, s .width))
 
   pub chain-short : (ns : List ℕ) → Chain (d .holes) ns → length ns ≤ 32
   chain-short = chain-few (d .bar .width) (d .holes) (ready d s)
@@ -69,6 +70,10 @@ module _ (d : Details) (s : Sound d) where
 
     pub told-few : length (told after) ≤ 32
     told-few = omega (arith, ap length (n .reads) ∙ length-reverse (n .chain), chain-short (n .chain) (n .least .chain))
+
+    -- read backwards, the least chain
+    pub told-least : Least (d .bar .width) (d .holes) (reverse (told after))
+    told-least = subst (Least (d .bar .width) (d .holes)) (sym (ap reverse (n .reads) ∙ reverse-reverse (n .chain))) (n .least)
 
     -- each the number of a hole
     pub told-numbers : All (λ m. (1 ≤ m) × (m ≤ length (d .holes))) (told after)

@@ -1,6 +1,6 @@
 -- The list of all chains has each chain and nothing else, and the least chain's width is the net width.
 use mathlib.Core.Path.{_≡_, refl, sym, subst, _∙_}
-use mathlib.Core.Bool.{Bool, true, false, cond, _&&_}
+use mathlib.Core.Bool.{Bool, true}
 use mathlib.Core.List.{List, [], _∷_, _++_, map}
 use mathlib.Core.Logic.{_⊎_, inl, inr, ⊎-elim}
 use Prim.Native.Nat.{ℕ, zero, suc, _+_, _*_, _≤_, _<_}
@@ -16,7 +16,7 @@ use Rattle.std.proofs.shelf.Lists.{getD-map, length-map}
 use Rattle.std.proofs.shelf.Signed.{folded-minZ-bounds, folded-minZ-reached}
 use Rattle.std.proofs.shelf.Tests.{cases-lt, lt-ltb, ltb-true, and-from, and-parts, cond-both, both-ways}
 use Rattle.parts.specs.declared.hole.Hole.{Hole}
-use Rattle.chains.specs.Chains.{the, Chain, cut, cuts, width}
+use Rattle.chains.specs.Chains.{the, Chain, cuts, width}
 use Rattle.chains.specs.Least.{Least}
 use Rattle.chains.specs.NetWidth.{falls, chained, all-chains, net-width}
 use Rattle.chains.specs.Search.{Ready}

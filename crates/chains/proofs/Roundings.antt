@@ -1,13 +1,13 @@
 -- What rounding the stagger terms costs.
-use mathlib.Core.Path.{_≡_, refl, sym, ap, subst, _∙_}
+use mathlib.Core.Path.{_≡_, sym, ap, subst, _∙_}
 use mathlib.Core.List.{List, [], _∷_}
-use Prim.Native.Nat.{ℕ, zero, suc, _+_, _-_, _*_, _/_, _≤_, _<_}
-use native.Mathlib.Nat.{add-mul, mul-add, mul-assoc, mul-comm, mul-one, mul-le-mul, le-refl, div-mul-le-self, lt-div-mul-add}
+use Prim.Native.Nat.{ℕ, suc, _+_, _*_, _/_, _≤_, _<_}
+use native.Mathlib.Nat.{add-mul, mul-assoc, mul-comm, mul-le-mul, le-refl, div-mul-le-self, lt-div-mul-add}
 use native.Mathlib.Omega.{arith}
 use borrow.Author.Differences.{ints, up, down, le-out}
 use lib.IntN.{ℤ, pos, _+ℤ_, _-ℤ_, _*ℤ_}
 use lib.Signed.{_≤ℤ_}
-use lib.ListN.{length, getD}
+use lib.ListN.{length}
 use Rattle.parts.specs.declared.hole.Hole.{Hole}
 use Rattle.chains.specs.Chains.{the, Chain, gage, square, terms, cuts, width}
 use Rattle.chains.specs.Least.{Least}

@@ -6,7 +6,7 @@ use lib.Signed.{_≤ℤ_}
 use Rattle.parts.specs.declared.hole.Hole.{Hole}
 use Rattle.chains.specs.Chains.{the, Chain, gage, square, cuts}
 
--- the product of the gages of a chain's neighbours
+-- the product of the gages of a chain's neighbours, each above 0
 abbrev pub gages : List Hole → List ℕ → ℕ
 gages hs [] = 1
 gages hs (n ∷ []) = 1

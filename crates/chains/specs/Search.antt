@@ -14,7 +14,6 @@ use Rattle.chains.specs.Least.{NoLater}
 -- all that the search takes from a joint: bounds, and holes numbered by rising y
 pub record Ready (bar : ℕ) (hs : List Hole) : Type 0 where
   pub narrow : bar ≤ 1000
-  pub some : 0 < length hs
   pub few : length hs ≤ 32
   pub far : (k : ℕ) → k < length hs → getD hs k no-hole .x ≤ 1200
   pub small : (k : ℕ) → k < length hs → getD hs k no-hole .diameter ≤ 32

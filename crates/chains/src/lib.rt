@@ -15,7 +15,7 @@ use search::all_steps;
 use search::narrowest_end;
 use sheet::Joint;
 
-// Names the least chain of the joint's holes on the slip, and answers its width.
+// Names the least chain of the joint's holes on the slip, first hole first, with a 0 behind it if a place remains, and answers its width.
 pub fn least_chain(joint: Joint<'_>, slip: &mut [u8; 32]) -> Micrometres
     ensures named { λ r. ⌜ Named (details (joint .entry) .bar .width) (details (joint .entry) .holes) (now (slip .entry)) (now (slip .exit)) (r .0) ⌝ }
     ensures net { λ r. ⌜ r .0 ≡ net-width (details (joint .entry) .bar .width) (details (joint .entry) .holes) ⌝ }

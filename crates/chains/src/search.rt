@@ -84,8 +84,7 @@ const NO_STEP: Step = Step {
 // The steps of all holes.
 pub(crate) fn all_steps(width: u32, holes: &[Hole]) -> [Step; 32]
     requires { ⌜ Ready width (now holes) ⌝ }
-    ensures long { λ r. ⌜ length r ≡ 32 ⌝ }
-    ensures full { λ r. ⌜ Full width (now (holes .entry)) r (length (now (holes .entry))) ⌝ }
+    ensures { λ r. ⌜ Full width (now (holes .entry)) r (length (now (holes .entry))) ⌝ }
 {
     let mut steps = [NO_STEP; 32];
     for i in 0..holes.len() {

@@ -6,7 +6,7 @@ ghost use Rattle.chains.specs.Chains.{cut, term};
 use parts::hole::Hole;
 use parts::quantity::Micrometres;
 
-// Its diameter and 2 mm.
+// What a hole takes: its diameter and 2 mm.
 pub(crate) fn cut_of(hole: &Hole) -> Micrometres
     requires { ⌜ now hole .diameter ≤ 32 ⌝ }
     ensures { λ r. ⌜ r .0 ≡ pos (cut (now (hole .entry))) ⌝ }
@@ -14,7 +14,7 @@ pub(crate) fn cut_of(hole: &Hole) -> Micrometres
     Micrometres(1000 * (hole.diameter as i64 + 2))
 }
 
-// A quarter of s² / g, rounded down: s is the distance of the two along the force, g across it.
+// What two neighbours give back: s² / 4g, rounded down to whole micrometres. s is their distance along the force, g across it.
 pub(crate) fn stagger_of(low: &Hole, high: &Hole) -> Micrometres
     requires low_far { ⌜ now low .x ≤ 1200 ⌝ }
     requires high_far { ⌜ now high .x ≤ 1200 ⌝ }

@@ -7,7 +7,7 @@ use lib.IntN.{ℤ, pos}
 use lib.Signed.{_<ℤ_, _≤ℤ_}
 use Rattle.std.specs.shelf.Lists.{All}
 use Rattle.std.proofs.shelf.Elements.{all-weaker}
-use Rattle.std.proofs.shelf.Signed.{ints}
+use Rattle.std.proofs.shelf.Signed.{ints, by-ltZ}
 use Rattle.limits.specs.declared.rated.Rated.{Rated}
 use Rattle.limits.specs.Foremost.{Foremost, Ranking}
 use Rattle.limits.specs.Rating.{rating, strength-of, Weaker, FirstWeakest}
@@ -33,3 +33,10 @@ first-as-weak u v less = (_, first-wins by-strength (u .1) (v .1) less)
 
 pub none-weaker : {xs : List Rated} {r : Rated} → FirstWeakest xs r → All (λ x. strength-of r ≤ℤ strength-of x) xs
 none-weaker {xs} {r} w = all-weaker (λ x. Weaker x r → ⊥) (λ x. strength-of r ≤ℤ strength-of x) (λ x h. grind (arith, ints)) xs (none-beats by-strength (w .1))
+
+pub weaker-of : {xs ys : List Rated} {p q : Rated} (r : Rated) → FirstWeakest xs p → FirstWeakest ys q
+    → (strength-of p ≤ℤ strength-of q → r ≡ p) → (strength-of q <ℤ strength-of p → r ≡ q) → FirstWeakest (xs ++ ys) r
+weaker-of {xs} {ys} {p} {q} r u v first second =
+    by-ltZ (strength-of q) (strength-of p)
+    (λ l. subst (FirstWeakest (xs ++ ys)) (sym (second l)) (second-weaker u v l))
+    (λ h. subst (FirstWeakest (xs ++ ys)) (sym (first h)) (first-as-weak u v (λ l. omega (arith, ints))))

@@ -1,8 +1,10 @@
 // A bank of limit states: one, or two banks put together, first and second.
+ghost use mathlib.Core.Path.{_≡_};
 ghost use mathlib.Core.List.{List, [], _∷_, _++_};
+ghost use lib.Signed.{_<ℤ_, _≤ℤ_};
 ghost use Rattle.std.specs.shelf.Lists.{All};
 ghost use Rattle.sheet.specs.Details.{Details, Sound, details};
-ghost use Rattle.limits.specs.Rating.{rating, FirstWeakest, Lawful};
+ghost use Rattle.limits.specs.Rating.{rating, strength-of, FirstWeakest, Lawful};
 ghost use Rattle.limits.specs.declared.rated.Rated.{Rated};
 use crate::limit_state::LimitState;
 use crate::rated::Rated;
@@ -34,6 +36,18 @@ pub impl<L: LimitState> Bank for Only<L> as OnlyBank {
     }
 }
 
+// The weaker of two, the first of equals.
+fn weaker(first: Rated, second: Rated) -> Rated
+    ensures first { λ r. ⌜ (strength-of first ≤ℤ strength-of second → r ≡ first) ⌝ }
+    ensures second { λ r. ⌜ (strength-of second <ℤ strength-of first → r ≡ second) ⌝ }
+{
+    if second.strength < first.strength {
+        second
+    } else {
+        first
+    }
+}
+
 #[derive(Drop)]
 pub struct Both<P, Q> {
     pub first: P,
@@ -44,12 +58,6 @@ pub impl<P: Bank, Q: Bank> Bank for Both<P, Q> as BothBank {
     ghost rated = { λ b d. P·Bank .rated (b .first) d ++ Q·Bank .rated (b .second) d };
 
     fn weakest(&self, joint: Joint<'_>) -> Rated {
-        let first = self.first.weakest(joint);
-        let second = self.second.weakest(joint);
-        if second.strength < first.strength {
-            second
-        } else {
-            first
-        }
+        weaker(self.first.weakest(joint), self.second.weakest(joint))
     }
 }

@@ -4,5 +4,3 @@ pub mod cutting;
 pub mod draft;
 pub mod numbers;
 pub mod pieces;
-#[cfg(test)]
-mod tests;

@@ -1,4 +1,4 @@
-use mathlib.Core.Path.{_≡_, sym, subst, _∙_}
+use mathlib.Core.Path.{sym, subst, _∙_}
 use mathlib.Core.List.{List}
 use Prim.Native.Nat.{_≤_}
 use native.Mathlib.Omega.{arith}
@@ -26,7 +26,7 @@ found : (c : After-narrowest-end-end) → Found (details (c .args .joint) .bar .
 found c =
     subst (λ (b : Bar). Found (b .width) (details (c .args .joint) .holes) (c .all-steps-steps .result) (c .narrowest-end-end .result .place)) (c .bar .ensures)
     (subst (λ (hs : List Hole). Found (c .bar .result .width) hs (c .all-steps-steps .result) (c .narrowest-end-end .result .place)) (c .holes-holes .ensures)
-    (found-all (c .bar .result .width) (c .holes-holes .result .now) (c .all-steps-steps .result) (c .all-steps-steps .ensures .full) (c .narrowest-end-end .result .place) (c .narrowest-end-end .ensures .slimmest)))
+    (found-all (c .bar .result .width) (c .holes-holes .result .now) (c .all-steps-steps .result) (c .all-steps-steps .ensures) (c .narrowest-end-end .result .place) (c .narrowest-end-end .ensures .slimmest)))
 
 pub write-chain-requires : need.write-chain-requires
 write-chain-requires c κs =

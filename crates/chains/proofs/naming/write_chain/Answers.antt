@@ -1,9 +1,9 @@
 use mathlib.Core.Path.{_≡_, sym, ap, _∙_}
 use mathlib.Core.List.{reverseAux}
 use mathlib.Core.Logic.{⊎-elim}
-use Prim.Native.Nat.{ℕ, _≤_}
+use Prim.Native.Nat.{ℕ}
 use native.Mathlib.Omega.{arith}
-use lib.ListN.{length, set, drop}
+use lib.ListN.{set, drop}
 use Rattle.std.proofs.shelf.Lists.{length-set, set-past}
 use Rattle.std.proofs.shelf.Tests.{cases-lt}
 use Rattle.chains.proofs.Paths.{write-on, write-more, filed-all, follows-bound}

@@ -1,7 +1,8 @@
-use crate::cursor::Cursor;
-use crate::numbers::number;
-use crate::numbers::signed_number;
+// Numbers and pieces on examples.
 use std::test::*;
+use text::cursor::Cursor;
+use text::numbers::number;
+use text::numbers::signed_number;
 
 #[test]
 fn plain_numbers() -> Result<(), Fail> {
