@@ -30,6 +30,7 @@ impl<'a> HoleLine<'a> {
         })
     }
 
+    // How many holes it has.
     pub fn len(self) -> usize
         requires { ⌜ length (now (self .others)) < 32 ⌝ }
         ensures { λ r. ⌜ r ≡ length (members (line-of (self .entry))) ⌝ }
@@ -98,6 +99,7 @@ fn longest(diameter: u32) -> u64
     24 * diameter as u64
 }
 
+// The length, or 2.4 bolt diameters where that is less.
 fn capped(length: u64, diameter: u32) -> u64
     ensures { λ r. ⌜ r ≡ min length (24 * diameter) ⌝ }
 {
