@@ -11,9 +11,9 @@ use Rattle.std.specs.declared.result.Result.{Result}
 use Rattle.std.specs.declared.result.Result.the-variants.{Ok, Err}
 use Rattle.sheet.specs.Account.{Account}
 use Rattle.sheet.specs.Calls.{joint-fault}
-use Rattle.sheet.specs.Details.{Details}
-use Rattle.limits.specs.declared.rated.Rated.{Rated}
-use Rattle.limits.specs.Norm.{norm-states}
+use Rattle.sheet.specs.Kept.{closed-account}
+use Rattle.sheet.specs.declared.sheet.closed.Closed.{Closed}
+use Rattle.limits.specs.Norm.{norm-ratings}
 use Rattle.reading.specs.Reads.{Accepted, Refused}
 use Rattle.text.specs.Words.{line}
 use Rattle.writing.specs.Pages.{Paged}
@@ -36,10 +36,20 @@ refused-line f = line (codes "refused" ∷ decimal (check-number f) ∷ decimal 
 -- t is the page of the sheet that the text describes, by the norm's limit states; or the refused line
 abbrev pub Answers : List ℕ → List ℕ → Type 0
 Answers text t =
-    ((a : Account) × Accepted text (length text) a × Paged norm-states a t)
+    ((a : Account) × Accepted text (length text) a × Paged norm-ratings a t)
     ⊎ ((f : CheckFault) × Wrong text f × (t ≡ refused-line f))
 
 -- the answer at the front of the buffer, whose other bytes are left; or nothing, where it does not fit
 abbrev pub Checks : List ℕ → List ℕ → Result ℕ NoRoom → List ℕ → Type 0
 Checks text was (Ok n) now = (t : List ℕ) × Answers text t × (n ≡ length t) × (n ≤ length was) × (now ≡ t ++ drop n was)
 Checks text was (Err e) now = (t : List ℕ) × Answers text t × (length was < length t) × (now ≡ was)
+
+-- inner: the closed sheet that a text describes, or what is wrong with it
+abbrev pub Sheets : List ℕ → Result Closed CheckFault → Type 0
+Sheets text (Ok c) = Accepted text (length text) (closed-account c) × (joint-fault (closed-account c) ≡ None)
+Sheets text (Err f) = Wrong text f
+
+-- inner: a text laid at the front of the buffer, or not
+abbrev pub Lays : List ℕ → List ℕ → Result ℕ NoRoom → List ℕ → Type 0
+Lays t was (Ok n) now = (n ≡ length t) × (n ≤ length was) × (now ≡ t ++ drop n was)
+Lays t was (Err e) now = (length was < length t) × (now ≡ was)

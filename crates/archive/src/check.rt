@@ -1,6 +1,5 @@
 // A text checked: its page, or a line that says what is wrong and where.
-ghost use Rattle.sheet.specs.Kept.{closed-account};
-ghost use Rattle.archive.specs.Checks.{Sheets, Lays, Checks};
+ghost use Rattle.archive.specs.Checks.{Sheets, Lays, Checks, refused-line};
 use crate::fault::CheckFault;
 use crate::fault::NoRoom;
 use limits::norm::norm;

@@ -1,0 +1,10 @@
+pub mod Shaped
+pub mod Forward
+pub mod Headed
+pub mod Settled
+pub mod BarTold
+pub mod BoltTold
+pub mod HoleTold
+pub mod Letters
+pub mod LoadTold
+pub mod Whole

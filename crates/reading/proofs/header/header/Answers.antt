@@ -1,0 +1,22 @@
+use mathlib.Core.Path.{_≡_, ap, _∙_}
+use mathlib.Core.Bool.{true}
+use mathlib.Core.Logic.{inr, ⊎-elim}
+use mathlib.Core.Path.{refl}
+use Prim.Native.Nat.{ℕ, _+_}
+use native.Mathlib.Omega.{arith}
+use Rattle.reading.proofs.header.header.Needs as need
+
+pub returns-then-not-same : need.returns-then-not-same
+returns-then-not-same c =
+    let f = c .in-Some .ensures tt in (
+      ap (λ n. n + 1) (c .line-line .ensures .count),
+      inr (
+        refl,
+        (
+          record { count = c .in-Some .count; name = c .in-Some .word .now; rest = _; begins = f .0 .begins; short = f .1 },
+          λ e low high.
+              let yes′ : c .same .result ≡ true = c .same .ensures .1 e in
+              ⊎-elim (λ ne. let z : _≡_ {A = ℕ} 0 1 = cc in omega arith) (λ p. ⊎-elim (λ q. omega arith) (λ q. omega arith) p) (c .then-not-same .either),
+        ),
+      ),
+    )
