@@ -1,7 +1,15 @@
 // A text checked: its page, or a line that says what is wrong and where.
+ghost use mathlib.Core.Path.{_≡_};
+ghost use Rattle.text.specs.Drafts.{written};
 ghost use Rattle.archive.specs.Checks.{Sheets, Lays, Checks, refused-line};
 use crate::fault::CheckFault;
 use crate::fault::NoRoom;
+use limits::bank::BothBank;
+use limits::bank::OnlyBank;
+use limits::bearing_lines::BearingLinesLimit;
+use limits::bolt_group::BoltGroupLimit;
+use limits::chain_search::ChainSearchLimit;
+use limits::gross_yielding::GrossYieldingLimit;
 use limits::norm::norm;
 use reading::read::read;
 use sheet::Closed;
@@ -29,8 +37,9 @@ fn sheet_of(text: &[u8]) -> Result<Closed, CheckFault>
     Ok(open.close())
 }
 
-fn write_refusal(fault: CheckFault, out: &mut [u8]) -> Result<usize, NoRoom>
-    ensures { λ r. ⌜ Lays (refused-line fault) (now (out .entry)) r (now (out .exit)) ⌝ }
+// The line that says what is wrong and where.
+fn refusal_line(fault: CheckFault) -> Draft
+    ensures { λ r. ⌜ written r ≡ refused-line fault ⌝ }
 {
     let mut draft = Draft::new();
     draft.word(b"refused");
@@ -39,7 +48,13 @@ fn write_refusal(fault: CheckFault, out: &mut [u8]) -> Result<usize, NoRoom>
     draft.byte(b' ');
     draft.number(fault.line() as u64);
     draft.byte(b'\n');
-    match draft.copy_to(out) {
+    draft
+}
+
+fn write_refusal(fault: CheckFault, out: &mut [u8]) -> Result<usize, NoRoom>
+    ensures { λ r. ⌜ Lays (refused-line fault) (now (out .entry)) r (now (out .exit)) ⌝ }
+{
+    match refusal_line(fault).copy_to(out) {
         Some(n) => Ok(n),
         None => Err(NoRoom),
     }

@@ -3,7 +3,8 @@ use archive::check::check;
 use std::io;
 use std::io::Write;
 
-const TEXT: &[u8] = b"1 bar\n200 12 A36 30\n1 bolt\nM20 330 1\n3 holes\n40 50 22\n80 100 22\n40 150 22\n7 loads\nD 50000\nL 60000\nA 0\nS 0\nR 0\nW 0\nE -7\n";
+const TEXT: &[u8] =
+    b"1 bar\n200 12 A36 30\n1 bolt\nM20 330 1\n3 holes\n40 50 22\n80 100 22\n40 150 22\n7 loads\nD 50000\nL 60000\nA 0\nS 0\nR 0\nW 0\nE -7\n";
 
 // The first line of the answer, or `page` and its length.
 fn tell(rt: &LibcRuntime, text: &[u8]) -> io::Result<()> {

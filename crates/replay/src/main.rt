@@ -23,7 +23,11 @@ use parse::call_in;
 use tell::tell;
 
 // The calls of the input, and the lines as they stood; or the number of the first line that is no call.
-fn calls_of(rt: &LibcRuntime, calls: &mut Vec<Call>, lines: &mut Vec<String>) -> Result<Option<usize>, AnyError> {
+fn calls_of(
+    rt: &LibcRuntime,
+    calls: &mut Vec<Call>,
+    lines: &mut Vec<String>,
+) -> Result<Option<usize>, AnyError> {
     let mut number = 0usize;
     for line in rt.lines(rt.alloc()) {
         let line = line?;
@@ -37,14 +41,22 @@ fn calls_of(rt: &LibcRuntime, calls: &mut Vec<Call>, lines: &mut Vec<String>) ->
     Ok(None)
 }
 
-fn tell_all(rt: &LibcRuntime, lines: &Vec<String>, answers: Result<Vec<Answer>, Halt>) -> Result<(), AnyError> {
+fn tell_all(
+    rt: &LibcRuntime,
+    lines: &Vec<String>,
+    answers: Result<Vec<Answer>, Halt>,
+) -> Result<(), AnyError> {
     match answers {
         Ok(answers) => {
             for (line, answer) in lines.iter().zip(answers.iter()) {
                 tell(rt, line.as_str(), answer)?;
             }
         }
-        Err(Halt::OutOfOrder { place }) => println!(rt, "out of order: call {}", place.saturating_add(1))?,
+        Err(Halt::OutOfOrder { place }) => println!(
+            rt,
+            "out of order: call {}",
+            place.saturating_add(1)
+        )?,
         Err(Halt::NoMemory) => println!(rt, "no memory")?,
     }
     Ok(())

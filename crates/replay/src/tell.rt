@@ -8,12 +8,20 @@ use std::io::Write;
 fn tell_refusal(rt: &LibcRuntime, line: &str, fault: Fault) -> io::Result<()> {
     let number = fault.number();
     match fault {
-        Fault::TooClose { hole } => println!(rt, "{line}: refused {number}, too close to hole {hole}"),
+        Fault::TooClose { hole } => println!(
+            rt,
+            "{line}: refused {number}, too close to hole {hole}"
+        ),
         _ => println!(rt, "{line}: refused {number}"),
     }
 }
 
-fn tell_judgment(rt: &LibcRuntime, line: &str, judgment: &Judgment, slip: &[u8; 32]) -> io::Result<()> {
+fn tell_judgment(
+    rt: &LibcRuntime,
+    line: &str,
+    judgment: &Judgment,
+    slip: &[u8; 32],
+) -> io::Result<()> {
     let kind = judgment.kind.number();
     let row = judgment.row;
     let state = judgment.state;
