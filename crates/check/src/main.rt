@@ -1,4 +1,6 @@
 // Reads a sheet from standard input, and writes its page or the refused line.
+ghost use Prim.Native.Nat.{_≤_};
+ghost use Rattle.std.specs.Vec.{made};
 use archive::check::check;
 use std::io;
 use std::io::Read;
@@ -8,7 +10,9 @@ use std::io::Write;
 const MOST: usize = 4097;
 
 // As much of the input as tells whether it is too long, and how much that is.
-fn read_input(rt: &LibcRuntime, text: &mut [u8; MOST]) -> io::Result<usize> {
+fn read_input(rt: &LibcRuntime, text: &mut [u8; MOST]) -> io::Result<usize>
+    ensures { λ r. ⌜ made r (λ n. n ≤ 4097) ⌝ }
+{
     let mut input = rt.stdin();
     let mut len = 0;
     for _ in 0..MOST {
