@@ -1,40 +1,46 @@
 // A good text damaged in every way of four: each beginning of it, and each byte replaced by a space, a line end, a digit and a letter.
 use archive::check::check;
-use std::io;
+use std::error::AnyError;
 use std::io::Write;
 
 const TEXT: &[u8] =
     b"1 bar\n200 12 A36 30\n1 bolt\nM20 330 1\n3 holes\n40 50 22\n80 100 22\n40 150 22\n7 loads\nD 50000\nL 60000\nA 0\nS 0\nR 0\nW 0\nE -7\n";
 
-// The first line of the answer, or `page` and its length.
-fn tell(rt: &LibcRuntime, text: &[u8]) -> io::Result<()> {
-    let mut out = [0; 4096];
+// The refused line, or `page` and its length.
+fn tell(rt: &LibcRuntime, text: &[u8]) -> Result<(), AnyError> {
+    let mut out = vec![in rt.alloc(); 0; 4096]?;
     match check(text, &mut out) {
-        Err(_) => rt.println("does not fit"),
+        Err(_) => rt.println("does not fit")?,
         Ok(n) => {
-            if out[0] == b'r' {
-                rt.stdout().write_all(&out[0..n.min(4096)])
+            out.truncate(n);
+            if out.as_slice().starts_with(b"refused") {
+                rt.stdout().write_all(out.as_slice())?;
             } else {
-                println!(rt, "page {n}")
+                println!(rt, "page {n}")?;
             }
         }
     }
+    Ok(())
 }
 
-fn main(rt: LibcRuntime) -> io::Result<()> {
+// The text with its byte at n replaced by each of four.
+fn tell_replaced(rt: &LibcRuntime, n: usize) -> Result<(), AnyError> {
+    for b in [b' ', b'\n', b'7', b'Q'] {
+        let mut text = Vec::from_slice(rt.alloc(), TEXT)?;
+        if let Some(byte) = text.get_mut(n) {
+            *byte = b;
+        }
+        tell(rt, text.as_slice())?;
+    }
+    Ok(())
+}
+
+fn main(rt: LibcRuntime) -> Result<(), AnyError> {
     for n in 0..TEXT.len() {
         tell(&rt, &TEXT[0..n])?;
     }
-    let mut text = [0; 256];
-    let len = TEXT.len().min(256);
-    text[0..len].copy_from_slice(&TEXT[0..len]);
-    for n in 0..len {
-        let was = text[n];
-        for b in [b' ', b'\n', b'7', b'Q'] {
-            text[n] = b;
-            tell(&rt, &text[0..len])?;
-        }
-        text[n] = was;
+    for n in 0..TEXT.len() {
+        tell_replaced(&rt, n)?;
     }
     Ok(())
 }

@@ -6,9 +6,12 @@ use std::io::Write;
 use text::numbers::number;
 
 fn answer(rt: &LibcRuntime, text: &[u8], room: usize) -> Result<(), AnyError> {
-    let mut out = [0; 4096];
-    match check(text, &mut out[0..room.min(4096)]) {
-        Ok(n) => rt.stdout().write_all(&out[0..n.min(4096)])?,
+    let mut out = vec![in rt.alloc(); 0; room]?;
+    match check(text, &mut out) {
+        Ok(n) => {
+            out.truncate(n);
+            rt.stdout().write_all(out.as_slice())?;
+        }
         Err(_) => rt.stdout().write_all(b"refused 20\n")?,
     }
     Ok(())
