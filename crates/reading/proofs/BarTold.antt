@@ -1,7 +1,7 @@
 -- What the sheet says of the bar's line.
 use mathlib.Core.Path.{_≡_, refl, sym, ap, subst, _∙_}
-use mathlib.Core.Bool.{true, not, cond}
-use mathlib.Core.Logic.{inl, inr}
+use mathlib.Core.Bool.{not, cond}
+use mathlib.Core.Logic.{inr}
 use mathlib.Core.List.{List, [], _∷_}
 use Prim.Native.Nat.{ℕ, _+_}
 use denote.Ref.{RefT}
@@ -17,10 +17,10 @@ use Rattle.parts.specs.declared.steel.Steel.the-variants.{A36, A529, A572Grade4
 use Rattle.parts.specs.Ranges.{bar-ranges}
 use Rattle.parts.specs.Steels.{steel-number, steel-name, steel-of}
 use Rattle.sheet.specs.Account.{Account, blank}
-use Rattle.sheet.specs.Calls.{Bars, bar-fault, bar-of}
+use Rattle.sheet.specs.Calls.{Bars, bar-fault}
 use Rattle.sheet.specs.Calls as calls
 use Rattle.text.specs.declared.cursor.Cursor.{Cursor}
-use Rattle.reading.specs.Beginnings.{bar-named, barred, borne, account-of}
+use Rattle.reading.specs.Beginnings.{bar-named, barred, account-of}
 use Rattle.reading.specs.Fields.{Passed, BarFields, told}
 use Rattle.reading.specs.Shapes.{BarShape}
 use Rattle.reading.specs.Stages.{At, Goes, with-bar}

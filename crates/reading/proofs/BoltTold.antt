@@ -1,7 +1,7 @@
 -- What the sheet says of the bolt's line.
 use mathlib.Core.Path.{_≡_, refl, sym, ap, subst, _∙_}
-use mathlib.Core.Bool.{true, not, cond}
-use mathlib.Core.Logic.{inl, inr}
+use mathlib.Core.Bool.{not, cond}
+use mathlib.Core.Logic.{inr}
 use mathlib.Core.List.{List, [], _∷_}
 use Prim.Native.Nat.{ℕ, _+_}
 use denote.Ref.{RefT}
@@ -17,7 +17,7 @@ use Rattle.parts.specs.declared.fault.Fault.{Fault}
 use Rattle.parts.specs.declared.fault.Fault.the-variants.{OutOfRange}
 use Rattle.parts.specs.Ranges.{bolt-ranges}
 use Rattle.parts.specs.Sizes.{size-number, size-name, size-of}
-use Rattle.sheet.specs.Account.{Account, blank}
+use Rattle.sheet.specs.Account.{Account}
 use Rattle.sheet.specs.Calls.{Bolts, bolt-fault}
 use Rattle.sheet.specs.Calls as calls
 use Rattle.text.specs.declared.cursor.Cursor.{Cursor}

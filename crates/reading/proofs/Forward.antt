@@ -1,5 +1,5 @@
 -- One good line further, and the first line that is not.
-use mathlib.Core.Path.{_≡_, refl, sym, ap, subst, _∙_}
+use mathlib.Core.Path.{_≡_, sym, ap, subst, _∙_}
 use mathlib.Core.List.{List, [], _∷_, _++_, append-assoc, reverse}
 use Prim.Native.Nat.{ℕ, _+_}
 use native.Mathlib.Omega.{arith}
@@ -16,7 +16,7 @@ use Rattle.reading.specs.Beginnings.{Beginning, lines, written, account-of, La
 use Rattle.reading.specs.Fields.{Passed}
 use Rattle.reading.specs.LineFaults.{LineFault}
 use Rattle.reading.specs.Reads.{FaultyLine}
-use Rattle.reading.specs.Stages.{At, Goes, Leads}
+use Rattle.reading.specs.Stages.{At, Leads}
 use Rattle.reading.specs.declared.fault.ReadFault.{ReadFault}
 
 -- the text of one line more

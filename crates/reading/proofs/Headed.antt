@@ -10,7 +10,7 @@ use Rattle.std.specs.Written.{decimal}
 use Rattle.std.specs.declared.result.Result.the-variants.{Ok}
 use Rattle.sheet.specs.Account.{Account}
 use Rattle.text.specs.declared.cursor.Cursor.{Cursor}
-use Rattle.reading.specs.Beginnings.{Beginning, nothing, bar-named, barred, bolt-named, bolted, holing, loading}
+use Rattle.reading.specs.Beginnings.{nothing, bar-named, barred, bolt-named, bolted, holing, loading}
 use Rattle.reading.specs.Fields.{Passed, HeaderRead}
 use Rattle.reading.specs.LineFaults.{HeaderFault}
 use Rattle.reading.specs.Stages.{Leads, at-start, at-bar, with-bar, at-bolt, with-bolt, with-holes, drilled, at-loads}

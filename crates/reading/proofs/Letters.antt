@@ -12,14 +12,12 @@ use Rattle.std.specs.Options.{Cases}
 use Rattle.std.specs.declared.option.Option.{Option}
 use Rattle.std.specs.declared.option.Option.the-variants.{Some, None}
 use Rattle.std.proofs.shelf.Lists.{getD-set-same, getD-set-other}
-use Rattle.std.proofs.shelf.Tests.{both-ways}
+use Rattle.std.proofs.shelf.Tests.{both-ways, cases-eq}
 use Rattle.std.proofs.shelf.Ways.{tells}
-use Rattle.std.proofs.str.Laws.{order}
 use Rattle.parts.specs.declared.load.LoadKind.{LoadKind}
 use Rattle.parts.specs.declared.load.LoadKind.the-variants.{Dead, Live, RoofLive, Snow, Rain, Wind, Earthquake}
 use Rattle.parts.specs.LoadKinds.{letter-of, kind-number, kind-of}
 use Rattle.sections.specs.Texts.{Load}
-use Rattle.reading.specs.Beginnings.{Fresh}
 use Rattle.reading.specs.LineFaults.{Names}
 use Rattle.reading.specs.Stages.{Marks}
 
@@ -89,11 +87,8 @@ in-order Earthquake = refl
 kind-once : (j k : LoadKind) → kind-number j ≡ kind-number k → j ≡ k
 kind-once j k e = letter-once j k (sym (in-order j) ∙ ap (λ n. getD (codes "DLASRWE") n 0) e ∙ in-order k)
 
-differ : (a b : ℕ) → (a ≡ b) ⊎ (a ≡ b → ⊥)
-differ a b = ⊎-elim (λ l. inr (λ e. omega arith)) (λ g. ⊎-elim (λ l. inr (λ e. omega arith)) (λ g′. inl (omega arith)) (order b a)) (order a b)
-
 same-or-not : (j k : LoadKind) → (j ≡ k) ⊎ (kind-number j ≡ kind-number k → ⊥)
-same-or-not j k = ⊎-elim (λ e. inl (kind-once j k e)) (λ n. inr n) (differ (kind-number j) (kind-number k))
+same-or-not j k = ⊎-elim (λ e. inl (kind-once j k e)) (λ n. inr n) (cases-eq (kind-number j) (kind-number k))
 
 abbrev unmarked : List Bool
 unmarked = false ∷ false ∷ false ∷ false ∷ false ∷ false ∷ false ∷ []

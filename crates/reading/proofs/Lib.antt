@@ -8,3 +8,7 @@ pub mod HoleTold
 pub mod Letters
 pub mod LoadTold
 pub mod Whole
+pub mod Spelling
+pub mod LinesOnce
+pub mod Paths
+pub mod OneAnswer

@@ -1,7 +1,7 @@
 -- What the sheet says of a load's line.
 use mathlib.Core.Path.{_≡_, refl, sym, ap, subst, _∙_}
 use mathlib.Core.Bool.{Bool, true, false, not, cond}
-use mathlib.Core.Logic.{inl, inr}
+use mathlib.Core.Logic.{inr}
 use mathlib.Core.List.{List, [], _∷_}
 use Prim.Native.Nat.{ℕ, _+_, _<_}
 use native.Mathlib.Omega.{arith}
@@ -24,7 +24,7 @@ use Rattle.sheet.specs.Calls.{Loads, load-fault, loaded}
 use Rattle.sheet.specs.Law.{bearable}
 use Rattle.text.specs.Figures.{Nine}
 use Rattle.text.specs.declared.cursor.Cursor.{Cursor}
-use Rattle.reading.specs.Beginnings.{Beginning, loading, account-of}
+use Rattle.reading.specs.Beginnings.{loading, account-of}
 use Rattle.reading.specs.Fields.{Passed, LoadFields, told}
 use Rattle.reading.specs.LineFaults.{Names}
 use Rattle.reading.specs.Shapes.{LoadShape}

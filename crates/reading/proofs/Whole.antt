@@ -1,7 +1,7 @@
 -- From the start of a text to its answer.
 use mathlib.Core.Path.{_≡_, refl, sym, ap, subst, _∙_}
 use mathlib.Core.Logic.{inr}
-use mathlib.Core.List.{List, _++_}
+use mathlib.Core.List.{List}
 use Prim.Native.Nat.{ℕ, _-_, _≤_}
 use native.Mathlib.Omega.{arith}
 use lib.ListN.{length, length-append}
@@ -10,7 +10,7 @@ use Rattle.std.specs.declared.result.Result.the-variants.{Ok, Err}
 use Rattle.sheet.specs.Account.{Account, blank}
 use Rattle.text.specs.declared.cursor.Cursor.{Cursor}
 use Rattle.reading.specs.Beginnings.{nothing, written}
-use Rattle.reading.specs.Reads.{Accepted, FaultyLine, Reads}
+use Rattle.reading.specs.Reads.{Accepted, Reads}
 use Rattle.reading.specs.Stages.{At, Leads, at-start, Whole, whole}
 use Rattle.reading.specs.declared.fault.ReadFault.{ReadFault}
 use Rattle.reading.proofs.Forward.{Fails}

@@ -1,4 +1,4 @@
--- What the reader takes from a line of each kind.
+-- What the reader takes from a line of each kind. Only inner functions cite it.
 use mathlib.Core.Path.{_≡_}
 use mathlib.Core.List.{List, [], _∷_}
 use Prim.Native.Nat.{ℕ, _+_, _≤_}

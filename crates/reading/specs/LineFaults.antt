@@ -1,14 +1,12 @@
 -- What is wrong with the line that is due: of the conditions that hold of it, the first in the order of the refusals.
 use mathlib.Core.Path.{_≡_}
-use mathlib.Core.Bool.{true, false}
+use mathlib.Core.Bool.{false}
 use mathlib.Core.Logic.{_⊎_}
 use mathlib.Core.List.{List, [], _∷_}
 use Prim.Native.Nat.{ℕ, _≤_, _<_}
 use lib.Chars.{codes}
 use lib.ListN.{length}
 use Rattle.std.specs.declared.option.Option.the-variants.{Some}
-use Rattle.parts.specs.declared.bar.Bar.{Bar}
-use Rattle.parts.specs.declared.bolt.Bolt.{Bolt}
 use Rattle.parts.specs.declared.bolt.Size.{Size}
 use Rattle.parts.specs.declared.fault.Fault.{Fault}
 use Rattle.parts.specs.declared.fault.Fault.the-variants.{OutOfRange, UnknownSteel, UnknownSize, UnknownLoad, LoadOutOfRange}

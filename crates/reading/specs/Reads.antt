@@ -6,7 +6,6 @@ use Prim.Native.Nat.{ℕ, _+_, _≤_, _<_}
 use lib.ListN.{length}
 use Rattle.std.specs.declared.result.Result.{Result}
 use Rattle.std.specs.declared.result.Result.the-variants.{Ok, Err}
-use Rattle.std.specs.shelf.Sorted.{Shuffled}
 use Rattle.parts.specs.declared.bar.Bar.{Bar}
 use Rattle.parts.specs.declared.bolt.Bolt.{Bolt}
 use Rattle.parts.specs.declared.hole.Hole.{Hole}

@@ -1,4 +1,4 @@
--- Where the reading stands, and what each part of it answers.
+-- Where the reading stands, and what each part of it answers. Only inner functions cite it.
 use mathlib.Core.Path.{_≡_}
 use mathlib.Core.Bool.{Bool, true, false}
 use mathlib.Core.List.{List, [], _++_}

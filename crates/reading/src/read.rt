@@ -1,5 +1,5 @@
 // The first four sections of a page, read onto a sheet.
-ghost use Rattle.reading.specs.Reads.{Reads};
+ghost use Rattle.reading.specs.Reads.{Reads, One-answer};
 ghost use Rattle.reading.specs.Stages.{Leads, at-start, whole};
 ghost use Rattle.sheet.specs.Kept.{open-account};
 use crate::bar::bar_section;
@@ -10,6 +10,9 @@ use crate::holes::holes_section;
 use crate::loads::loads_section;
 use sheet::Open;
 use text::cursor::Cursor;
+
+// No page is longer, in bytes.
+const LONGEST: usize = 4096;
 
 fn sections(cursor: &mut Cursor<'_>, sheet: &mut Open) -> Result<(), ReadFault>
     ensures { λ r. ⌜ Leads at-start whole (now (cursor .entry)) (open-account (now (sheet .entry))) r (now (cursor .exit)) (open-account (now (sheet .exit))) ⌝ }
@@ -23,9 +26,10 @@ fn sections(cursor: &mut Cursor<'_>, sheet: &mut Open) -> Result<(), ReadFault>
 // Puts what the text says in place of all that the sheet held, and answers how many bytes that took.
 // A refused text leaves the sheet as it was.
 pub fn read(open: &mut Open, text: &[u8]) -> Result<usize, ReadFault>
-    ensures { λ r. ⌜ Reads (now (text .entry)) (open-account (now («open» .entry))) r (open-account (now («open» .exit))) ⌝ }
+    ensures answer { λ r. ⌜ Reads (now (text .entry)) (open-account (now («open» .entry))) r (open-account (now («open» .exit))) ⌝ }
+    ensures once { λ _. ⌜ One-answer ⌝ }
 {
-    if text.len() > 4096 {
+    if text.len() > LONGEST {
         return Err(ReadFault {
             cause: Cause::TooLong,
             line: 0,

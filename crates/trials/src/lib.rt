@@ -2,6 +2,8 @@
 #[cfg(test)]
 mod least_chain;
 #[cfg(test)]
+mod page_read;
+#[cfg(test)]
 mod page_text;
 #[cfg(test)]
 mod sheet_calls;

@@ -9,7 +9,7 @@ use Rattle.archive.proofs.check.sheet_of.Needs as need
 pub returns-then-taken-text : need.returns-then-taken-text
 returns-then-taken-text c =
     let a = open-account (c .read .last .open) in
-    let ok = c .in-Ok .ensures tt in
+    let ok = c .in-Ok .ensures tt .answer in
     let within = accepted-within (c .args .text .now) (c .in-Ok .taken) a ok in (
       c .in-Ok .taken,
       a,

@@ -1,18 +1,18 @@
-use mathlib.Core.Path.{refl, ap}
+use mathlib.Core.Path.{refl}
+use native.Mathlib.Omega.{arith}
 use mathlib.Core.Logic.{inl, inr}
-use Prim.Native.Nat.{_+_}
 use Rattle.reading.specs.Beginnings.{bar-named}
 use Rattle.reading.proofs.BarTold.{bar-shape, bar-told}
 use Rattle.reading.proofs.Forward.{faulty-line}
 use Rattle.reading.proofs.bar.bar_line.Needs as need
 
 pub returns-in-rest : need.returns-in-rest
-returns-in-rest c = record { goes = λ text u at. faulty-line bar-named at (ap (λ n. n + 1) (c .line-line .ensures .count)) (inl (refl, c .in-rest .ensures tt)) }
+returns-in-rest c = record { goes = λ text u at. faulty-line bar-named at (omega arith) (inl (refl, c .in-rest .ensures tt)) }
 
 pub returns-in-rest-named : need.returns-in-rest-named
 returns-in-rest-named c = record {
   goes = λ text u at.
-      faulty-line bar-named at (ap (λ n. n + 1) (c .line-line .ensures .count))
+      faulty-line bar-named at (omega arith)
       (inr (inl (refl, (bar-shape (c .args .cursor .now) _ (c .in-Some .width, c .in-Some .thickness, c .in-Some .name, c .in-Some .edge) (c .in-Some .ensures tt), c .in-rest-named .ensures tt))));
 }
 

@@ -1,15 +1,14 @@
-use mathlib.Core.Path.{_≡_, ap, _∙_}
+use mathlib.Core.Path.{_≡_, refl}
 use mathlib.Core.Bool.{true}
 use mathlib.Core.Logic.{inr, ⊎-elim}
-use mathlib.Core.Path.{refl}
-use Prim.Native.Nat.{ℕ, _+_}
+use Prim.Native.Nat.{ℕ}
 use native.Mathlib.Omega.{arith}
 use Rattle.reading.proofs.header.header.Needs as need
 
 pub returns-then-not-same : need.returns-then-not-same
 returns-then-not-same c =
     let f = c .in-Some .ensures tt in (
-      ap (λ n. n + 1) (c .line-line .ensures .count),
+      omega arith,
       inr (
         refl,
         (

@@ -1,6 +1,5 @@
-use mathlib.Core.Path.{refl, ap}
-use mathlib.Core.Logic.{inl, inr}
-use Prim.Native.Nat.{_+_}
+use mathlib.Core.Path.{refl}
+use mathlib.Core.Logic.{inl}
 use native.Mathlib.Omega.{arith}
 use Rattle.reading.specs.Stages.{with-holes}
 use Rattle.reading.proofs.Forward.{faulty-line}
@@ -9,7 +8,7 @@ use Rattle.reading.proofs.holes.hole_line.Needs as need
 
 pub returns-in-rest : need.returns-in-rest
 returns-in-rest c = λ n i room. record {
-  goes = λ text d at. faulty-line (with-holes n i d) at (ap (λ k. k + 1) (c .line-line .ensures .count)) (inl (omega (arith, d .many), inl (refl, c .in-rest .ensures tt)));
+  goes = λ text d at. faulty-line (with-holes n i d) at (omega arith) (inl (omega (arith, d .many), inl (refl, c .in-rest .ensures tt)));
 }
 
 pub returns : need.returns

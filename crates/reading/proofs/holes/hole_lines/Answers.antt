@@ -1,6 +1,5 @@
 use native.Mathlib.Omega.{arith}
 use Rattle.std.proofs.shelf.Results.{err-from-errBy}
-use Rattle.reading.specs.Stages.{with-holes}
 use Rattle.reading.proofs.Forward.{_then_, _fails_, broke}
 use Rattle.reading.proofs.HoleTold.{all-drilled}
 use Rattle.reading.proofs.holes.hole_lines.Needs as need

@@ -1,7 +1,7 @@
 use mathlib.Core.Bool.{true, false}
-use mathlib.Core.Path.{_≡_, refl, ap, subst}
+use mathlib.Core.Path.{_≡_, refl, subst}
 use mathlib.Core.Logic.{inl, inr}
-use Prim.Native.Nat.{ℕ, _+_}
+use Prim.Native.Nat.{ℕ}
 use lib.ListN.{getD}
 use mir.Syntax.{w32}
 use mir.Val.{toZ, ofZ}
@@ -13,20 +13,20 @@ use Rattle.reading.proofs.loads.load_line.Needs as need
 
 pub returns-in-rest : need.returns-in-rest
 returns-in-rest c = λ i room. record {
-  goes = λ text d at. faulty-line (with-loads i _ d) at (ap (λ k. k + 1) (c .line-line .ensures .count)) (omega (arith, d .many), inl (refl, c .in-rest .ensures tt));
+  goes = λ text d at. faulty-line (with-loads i _ d) at (omega arith) (omega (arith, d .many), inl (refl, c .in-rest .ensures tt));
 }
 
 pub returns-in-rest-kind-named : need.returns-in-rest-kind-named
 returns-in-rest-kind-named c = λ i room. record {
   goes = λ text d at.
-      faulty-line (with-loads i _ d) at (ap (λ k. k + 1) (c .line-line .ensures .count))
+      faulty-line (with-loads i _ d) at (omega arith)
       (omega (arith, d .many), inr (inl (refl, (load-shape (c .args .cursor .now) _ (c .in-Some .name, c .in-Some .newtons) (c .in-Some .ensures tt), c .in-rest-kind-named .ensures tt))));
 }
 
 pub returns-then-seen-place : need.returns-then-seen-place
 returns-then-seen-place c = λ i room. record {
   goes = λ text d at.
-      faulty-line (with-loads i _ d) at (ap (λ k. k + 1) (c .line-line .ensures .count)) (
+      faulty-line (with-loads i _ d) at (omega arith) (
         omega (arith, d .many),
         inr (inr (inl (
           refl,

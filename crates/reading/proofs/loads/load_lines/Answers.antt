@@ -8,7 +8,7 @@ use Rattle.reading.proofs.loads.load_lines.Needs as need
 pub returns-in-Break-load-line : need.returns-in-Break-load-line
 returns-in-Break-load-line c =
     let p = err-from-errBy (c .from-residual .result) (c .from-residual .ensures .1) in
-    broke (c .loop-i .inv fails record { faulty = c .in-Break-load-line .ensures tt (c .loop-i .-i) (c .loop-i-test .taken) .goes }) (p .1) (p .2)
+    broke (c .loop-i .inv fails record { faulty = c .in-Break-load-line .ensures tt (c .loop-i .-i) (omega arith) .goes }) (p .1) (p .2)
 
 pub loop-i-holds : need.loop-i-holds
 loop-i-holds c = record {
@@ -16,7 +16,7 @@ loop-i-holds c = record {
 }
 
 pub loop-i-again : need.loop-i-again
-loop-i-again c = c .loop-i .inv then c .in-Continue-load-line .ensures tt (c .loop-i .-i) (c .loop-i-test .taken)
+loop-i-again c = c .loop-i .inv then c .in-Continue-load-line .ensures tt (c .loop-i .-i) (omega arith)
 
 pub returns : need.returns
 returns c = record {

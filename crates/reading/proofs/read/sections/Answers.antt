@@ -1,4 +1,5 @@
 use Rattle.std.proofs.shelf.Results.{err-from-errBy}
+use Rattle.sheet.specs.Kept.{open-account}
 use Rattle.reading.proofs.Forward.{_then_, _fails_, broke}
 use Rattle.reading.proofs.read.sections.Needs as need
 
@@ -15,7 +16,8 @@ returns-in-Break-bolt-section c =
 pub returns-in-Break-holes-section : need.returns-in-Break-holes-section
 returns-in-Break-holes-section c =
     let p = err-from-errBy (c .from-residual-in-Break-holes-section .result) (c .from-residual-in-Break-holes-section .ensures .1) in
-    broke (c .in-Continue-bar-section .ensures tt fails c .in-Continue-bolt-section .ensures tt fails record { faulty = c .in-Break-holes-section .ensures tt .goes }) (p .1) (p .2)
+    let later = _fails_ {mid = c .bolt-section .last .cursor} {half = open-account (c .bolt-section .last .sheet)} (c .in-Continue-bolt-section .ensures tt) (record { faulty = c .in-Break-holes-section .ensures tt .goes }) in
+    broke (c .in-Continue-bar-section .ensures tt fails later) (p .1) (p .2)
 
 pub returns : need.returns
 returns c = c .in-Continue-bar-section .ensures tt then c .in-Continue-bolt-section .ensures tt then c .in-Continue-holes-section .ensures tt then c .loads-section .ensures
