@@ -249,3 +249,6 @@ module _ (calls : List Call) where
 
 pub holes-stand : Holes-stand
 holes-stand calls k h within = let so = at-all calls k within in (so .stood h, so .stands h)
+
+pub holes-ordered : (calls : List Call) (k : ℕ) → k ≤ length calls → pairs before (account-after (take k calls) .holes) ≡ true
+holes-ordered calls k within = law-pairs _ _ _ (at-all calls k within .law)

@@ -1,5 +1,11 @@
 pub mod Laying
+pub mod Retold
+pub mod Renumbered
+pub mod Reloaded
+pub mod Again
 pub mod Rulings
 pub mod Runs
 pub mod Loading
 pub mod Drilling
+pub mod Last
+pub mod Kept

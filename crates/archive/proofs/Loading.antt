@@ -27,7 +27,7 @@ use Rattle.archive.proofs.Runs.{account-none, account-more, by-fault}
 
 -- ---- the seven loads by their numbers
 
-kind-few : (k : LoadKind) → kind-number k < 7
+pub kind-few : (k : LoadKind) → kind-number k < 7
 kind-few Dead = omega arith
 kind-few Live = omega arith
 kind-few RoofLive = omega arith

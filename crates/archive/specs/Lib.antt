@@ -1,7 +1,9 @@
 pub mod Faults
 pub mod Checks
+pub mod Again
 pub mod Lists
 pub mod Given
 pub mod Standing
 pub mod Replays
+pub mod Promises
 pub mod States

@@ -1,6 +1,7 @@
 // A text checked: its page, or a line that says what is wrong and where.
 ghost use mathlib.Core.Path.{_≡_};
 ghost use Rattle.text.specs.Drafts.{written};
+ghost use Rattle.archive.specs.Again.{Pages-read-again};
 ghost use Rattle.archive.specs.Checks.{Sheets, Lays, Checks, refused-line};
 use crate::fault::CheckFault;
 use crate::fault::NoRoom;
@@ -62,7 +63,8 @@ fn write_refusal(fault: CheckFault, out: &mut [u8]) -> Result<usize, NoRoom>
 
 // Reads the text, judges it by the norm's limit states and writes its page to the front of `out`; or the refused line.
 pub fn check(text: &[u8], out: &mut [u8]) -> Result<usize, NoRoom>
-    ensures { λ r. ⌜ Checks (now (text .entry)) (now (out .entry)) r (now (out .exit)) ⌝ }
+    ensures answer { λ r. ⌜ Checks (now (text .entry)) (now (out .entry)) r (now (out .exit)) ⌝ }
+    ensures again { λ _. ⌜ Pages-read-again ⌝ }
 {
     match sheet_of(text) {
         Err(fault) => write_refusal(fault, out),

@@ -1,4 +1,5 @@
 // A list of calls replayed from a new sheet.
+ghost use Rattle.archive.specs.Promises.{Promises};
 ghost use Rattle.archive.specs.Replays.{Replays};
 ghost use Rattle.archive.specs.Standing.{Holes-stand, Loads-last};
 use crate::call::Answer;
@@ -16,6 +17,7 @@ pub fn replay<B: Bank>(heap: Global, bank: &B, calls: &[Call]) -> Result<Vec<Ans
     ensures replays { λ r. ⌜ Replays (rated (now (bank .entry))) (now (calls .entry)) r ⌝ }
     ensures holes { λ _. ⌜ Holes-stand ⌝ }
     ensures loads { λ _. ⌜ Loads-last ⌝ }
+    ensures promises { λ r. ⌜ Promises (rated (now (bank .entry))) (now (calls .entry)) r ⌝ }
 {
     let mut answers = Vec::new(heap);
     let mut state = State::Opened(Open::new());
