@@ -13,7 +13,7 @@ use Rattle.parts.specs.declared.fault.Fault.{Fault}
 use Rattle.parts.specs.Holes.{before}
 use Rattle.parts.specs.LoadKinds.{kind-number}
 use Rattle.sheet.specs.Calls.{joint-fault}
-use Rattle.sheet.specs.Details.{Details, whole}
+use Rattle.sheet.specs.Details.{Details, whole, Sound}
 use Rattle.sheet.specs.Law.{pairs}
 use Rattle.limits.specs.declared.rated.Rated.{Rated}
 use Rattle.judging.specs.Judging.{Sole}
@@ -33,13 +33,14 @@ use Rattle.archive.proofs.Last.{last-bar, last-bolt}
 use Rattle.archive.proofs.Loading.{loads-last}
 
 module _ (states : Details → List Rated) (calls : List Call) (k : ℕ) (within : k ≤ length calls) where
-  promised : (d : Details) (j : Judgment) (chain : List ℕ) → account-after (take k calls) ≡ whole d → Sole states d j chain → Promised states calls k d j chain
-  promised d j chain holds sole =
+  promised : (d : Details) (j : Judgment) (chain : List ℕ) → account-after (take k calls) ≡ whole d → Sound d → Sole states d j chain → Promised states calls k d j chain
+  promised d j chain holds sound sole =
       record {
         bar = last-bar calls k within _ (ap (λ a. a .bar) holds);
         bolt = last-bolt calls k within _ (ap (λ a. a .bolt) holds);
         stand = λ h. subst (λ a. (Has (a .holes) h → Stood calls k h) × (Stood calls k h → Has (a .holes) h)) holds (holes-stand calls k h within);
         order = subst (λ a. pairs before (a .holes) ≡ true) holds (holes-ordered calls k within);
+        seven = sound .seven;
         loads = λ kind. subst (λ a. LastLoad calls k kind (getD (a .loads) (kind-number kind) (pos 0))) holds (loads-last calls k kind within);
         judged = sole .judged;
       }
@@ -56,7 +57,7 @@ module _ (states : Details → List Rated) (calls : List Call) (k : ℕ) (within
   keeps-judged : (r : Answer) → JudgedBy states (account-after (take k calls)) r → Keeps states calls k r
   keeps-judged r by =
       subst (Keeps states calls k) (sym (by .is))
-      (by .details, by .chain, by .reads, promised (by .details) (by .judgment) (by .chain) (by .holds) (by .sole))
+      (by .details, by .chain, by .reads, promised (by .details) (by .judgment) (by .chain) (by .holds) (by .sound) (by .sole))
 
   keeps-paged : (room : ℕ) (t : List ℕ) (r : Answer) → Paged states (account-after (take k calls)) t → PageSaid room t r → Keeps states calls k r
   keeps-paged room t (PageAnswer bytes) paged said =
@@ -67,7 +68,7 @@ module _ (states : Details → List Rated) (calls : List Call) (k : ℕ) (within
         page .order,
         page .ordered,
         said .0 ∙ page .is,
-        promised (paged .details) (page .judgment) (page .chain) (paged .holds) (page .sole),
+        promised (paged .details) (page .judgment) (page .chain) (paged .holds) (paged .sound) (page .sole),
       )
   keeps-paged room t NoRoom paged said = tt
   keeps-paged room t Accepted paged said = tt

@@ -60,6 +60,7 @@ pub record Promised (states : Details → List Rated) (calls : List Call) (k : �
   pub bolt : LastBolt calls k (d .bolt)
   pub stand : (h : Hole) → (Has (d .holes) h → Stood calls k h) × (Stood calls k h → Has (d .holes) h)
   pub order : pairs before (d .holes) ≡ true
+  pub seven : length (d .loads) ≡ 7
   pub loads : (kind : LoadKind) → LastLoad calls k kind (getD (d .loads) (kind-number kind) (pos 0))
   -- chain, rows, limit states, least row and kind: every promise of a judgment
   pub judged : Judged (rows-of (d .loads)) (states d) (d .bar .width) (d .holes) j chain

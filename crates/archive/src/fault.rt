@@ -1,7 +1,8 @@
 // Why a text is no sheet that can be judged.
 ghost use mathlib.Core.Path.{_≡_};
-ghost use Rattle.archive.specs.Faults.{check-number, check-line};
+ghost use Rattle.archive.specs.Faults.{check-number, check-layer, check-line};
 use parts::fault::Fault;
+use reading::fault::Layer;
 use reading::fault::ReadFault;
 
 #[derive(Clone, Copy)]
@@ -22,6 +23,17 @@ impl CheckFault {
             CheckFault::Read(fault) => fault.cause.number(),
             CheckFault::Trailing { .. } => 25,
             CheckFault::Sheet(fault) => fault.number(),
+        }
+    }
+
+    // The text where only reading gives the number, else the sheet.
+    pub fn layer(self) -> Layer
+        ensures { λ r. ⌜ r ≡ check-layer self ⌝ }
+    {
+        match self {
+            CheckFault::Read(fault) => fault.cause.layer(),
+            CheckFault::Trailing { .. } => Layer::Text,
+            CheckFault::Sheet(_) => Layer::Sheet,
         }
     }
 

@@ -17,7 +17,7 @@ pub(crate) struct HoleLine<'a> {
 
 impl<'a> HoleLine<'a> {
     // The line of the first hole.
-    pub fn first_of(holes: &'a [Hole]) -> Option<HoleLine<'a>>
+    pub(crate) fn first_of(holes: &'a [Hole]) -> Option<HoleLine<'a>>
         ensures { λ r. ⌜ Cases r (now (holes .entry) ≡ []) (λ l. lines (now (holes .entry)) ≡ line-of l ∷ lines (drop (length (members (line-of l))) (now (holes .entry)))) ⌝ }
     {
         let [first, after @ ..] = holes else {
@@ -31,7 +31,7 @@ impl<'a> HoleLine<'a> {
     }
 
     // How many holes it has.
-    pub fn len(self) -> usize
+    pub(crate) fn len(self) -> usize
         requires { ⌜ length (now (self .others)) < 32 ⌝ }
         ensures { λ r. ⌜ r ≡ length (members (line-of (self .entry))) ⌝ }
     {
@@ -58,7 +58,7 @@ impl<'a> HoleLine<'a> {
     }
 
     // The sum of one length for each hole.
-    pub fn bearing_length(self, diameter: u32) -> u64
+    pub(crate) fn bearing_length(self, diameter: u32) -> u64
         requires small { ⌜ diameter ≤ 24 ⌝ }
         requires few { ⌜ length (now (self .others)) < 32 ⌝ }
         requires rising { ⌜ Rising (Next diameter) (members (line-of self)) ⌝ }
