@@ -35,7 +35,7 @@ const EXAMPLES: [(&[u8], &[u8]); 4] = [
 
 /// Compares the two on every kind of input, and says whether they agree on all and everything was seen.
 pub fn compare(seed: u64) -> bool {
-    println!("comparison, seed {seed}");
+    println!("comparison, generator started at {seed}");
     let mut tally = Tally::default();
     let mut differences = examples(&mut tally);
     for (place, kind) in KINDS.iter().enumerate() {
