@@ -1,4 +1,6 @@
 // The archive's own calls: a text checked, and a list of calls replayed.
+#![tactic(auto)]
+
 pub mod call;
 pub mod check;
 pub mod fault;

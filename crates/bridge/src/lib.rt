@@ -1,4 +1,6 @@
 // Checking a text, for a program in another language.
+#![tactic(auto)]
+
 ghost use Rattle.std.specs.Prelude.{◌≡◌};
 ghost use Rattle.bridge.specs.Told.{Told};
 

@@ -1,4 +1,6 @@
 // The least chain of holes across a flat bar, and the net width along it.
+#![tactic(auto)]
+
 mod naming;
 mod search;
 mod stagger;

@@ -1,4 +1,6 @@
 // Reads a sheet from standard input, and writes its page or the refused line.
+#![tactic(auto)]
+
 ghost use Rattle.std.specs.Prelude.{◌≤◌, IfOk};
 
 use archive::check::check;

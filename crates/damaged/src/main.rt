@@ -1,4 +1,6 @@
 // A good text damaged in every way of four: each beginning of it, and each byte replaced by a space, a line end, a digit and a letter.
+#![tactic(auto)]
+
 use archive::check::check;
 use std::io::Write;
 

@@ -1,5 +1,7 @@
 // Texts from standard input, each checked and answered.
 // A line `|TEXT` is a line of the text, `/TEXT` one without its end; `= ROOM` checks the text with so many bytes lent; any other line is repeated.
+#![tactic(auto)]
+
 use archive::check::check;
 use std::io::Write;
 use text::numbers::number;

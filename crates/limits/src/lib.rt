@@ -1,4 +1,6 @@
 // Limit states, each with one strength for every joint, and banks of them.
+#![tactic(auto)]
+
 pub mod bank;
 pub mod bearing_lines;
 pub mod bolt_group;

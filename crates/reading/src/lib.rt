@@ -1,4 +1,6 @@
 // An archive page, read onto a sheet.
+#![tactic(auto)]
+
 mod bar;
 mod bolt;
 pub mod fault;

@@ -1,4 +1,6 @@
 // The refusals of a sheet's own calls, each on an example.
+#![tactic(auto)]
+
 use std::io;
 
 mod calls;

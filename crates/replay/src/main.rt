@@ -1,4 +1,6 @@
 // A list of calls from standard input, one a line, replayed on a new sheet; each is printed with its answer.
+#![tactic(auto)]
+
 use archive::call::{Answer, Call, Halt};
 use archive::replay::replay;
 use limits::bank::{Both, Only};

@@ -1,4 +1,6 @@
 // A limit state of one's own, and a bank of it.
+#![tactic(auto)]
+
 ghost use Rattle.std.specs.Prelude.{◌*◌};
 ghost use Rattle.std.proofs.Common.{rules};
 

@@ -1,4 +1,6 @@
 // The libraries on worked examples.
+#![tactic(auto)]
+
 #[cfg(test)]
 mod least_chain;
 #[cfg(test)]
