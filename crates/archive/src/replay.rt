@@ -12,10 +12,10 @@ use std::alloc::Global;
 
 // Hands each call the sheet that the one before left, and answers each. For every bank and every list.
 pub fn replay<B: Bank>(heap: Global, bank: &B, calls: &[Call]) -> Result<Vec<Answer>, Halt>
-    ensures replays { Replays (rated bank.now) calls.now result }
+    ensures replays { Replays (B.rated bank.now) calls.now result }
     ensures holes { HolesStand }
     ensures loads { LoadsLast }
-    ensures promises { Promises (rated bank.now) calls.now result }
+    ensures promises { Promises (B.rated bank.now) calls.now result }
 {
     let mut answers = Vec::new(heap);
     let mut state = State::Opened(Open::new());

@@ -27,7 +27,7 @@ fn answered(res: Result<(), Fault>) -> Answer
 }
 
 fn judged<B: Bank>(sheet: &Open, bank: &B) -> Answer
-    ensures { Gives (rated bank.now) (open_account sheet.now) Judge result }
+    ensures { Gives (B.rated bank.now) (open_account sheet.now) Judge result }
 {
     let mut slip = [0; 32];
     match judge(sheet, bank, &mut slip) {
@@ -37,7 +37,7 @@ fn judged<B: Bank>(sheet: &Open, bank: &B) -> Answer
 }
 
 fn paged<B: Bank>(heap: Global, sheet: &Closed, bank: &B, room: usize) -> Result<Answer, AllocError>
-    ensures { IfOk result (λ a. Gives (rated bank.now) (closed_account sheet.now) (Page room) a) }
+    ensures { IfOk result (λ a. Gives (B.rated bank.now) (closed_account sheet.now) (Page room) a) }
 {
     let mut bytes = vec![in heap; 0; room]?;
     match page(sheet, bank, &mut bytes) {
@@ -56,7 +56,7 @@ fn at_open<B: Bank>(
     place: usize,
     call: Call,
 ) -> Result<(State, Answer), Halt>
-    ensures { Leads (rated bank.now) (open_account sheet) true call place result }
+    ensures { Leads (B.rated bank.now) (open_account sheet) true call place result }
 {
     let answer = match call {
         Call::Bar {
@@ -87,7 +87,7 @@ fn at_closed<B: Bank>(
     place: usize,
     call: Call,
 ) -> Result<(State, Answer), Halt>
-    ensures { Leads (rated bank.now) (closed_account sheet) false call place result }
+    ensures { Leads (B.rated bank.now) (closed_account sheet) false call place result }
 {
     match call {
         Call::Page { room } => {
@@ -107,7 +107,7 @@ pub(crate) fn step<B: Bank>(
     place: usize,
     call: Call,
 ) -> Result<(State, Answer), Halt>
-    ensures { Leads (rated bank.now) (account_of state) (opened state) call place result }
+    ensures { Leads (B.rated bank.now) (account_of state) (opened state) call place result }
 {
     match state {
         State::Opened(sheet) => at_open(bank, sheet, place, call),

@@ -17,7 +17,7 @@ use sheet::{Joint, Open};
 
 // The judgment of a joint whose least chain is known by its width.
 fn judged<B: Bank>(joint: Joint<'_>, bank: &B, net_width: Micrometres) -> Judgment
-    ensures { (chain : List ℕ) → Least (details joint.entry).bar.width (details joint.entry).holes chain → net_width.0 ≡ width (details joint.entry).bar.width (details joint.entry).holes chain → Sole (rated bank.now) (details joint.entry) result chain }
+    ensures { (chain : List ℕ) → Least (details joint.entry).bar.width (details joint.entry).holes chain → net_width.0 ≡ width (details joint.entry).bar.width (details joint.entry).holes chain → Sole (B.rated bank.now) (details joint.entry) result chain }
 {
     let weakest = bank.weakest(joint);
     let all = rows(joint.loads());
@@ -26,7 +26,7 @@ fn judged<B: Bank>(joint: Joint<'_>, bank: &B, net_width: Micrometres) -> Judgme
 
 // Judges a joint, and names its least chain on the slip.
 pub fn judge_joint<B: Bank>(joint: Joint<'_>, bank: &B, slip: &mut [u8; 32]) -> Judgment
-    ensures { Tells (rated bank.now) (details joint.entry) slip.old slip.new result }
+    ensures { Tells (B.rated bank.now) (details joint.entry) slip.old slip.new result }
 {
     let net_width = least_chain(joint, slip);
     judged(joint, bank, net_width)
@@ -34,7 +34,7 @@ pub fn judge_joint<B: Bank>(joint: Joint<'_>, bank: &B, slip: &mut [u8; 32]) -> 
 
 // Judges an open sheet.
 pub fn judge<B: Bank>(sheet: &Open, bank: &B, slip: &mut [u8; 32]) -> Result<Judgment, Fault>
-    ensures { Judges (rated bank.now) (open_account sheet.now) slip.old slip.new result }
+    ensures { Judges (B.rated bank.now) (open_account sheet.now) slip.old slip.new result }
 {
     let joint = Joint::of(sheet.sheet())?;
     Ok(judge_joint(joint, bank, slip))

@@ -1,16 +1,15 @@
 -- What the law of the holes gives, and what keeps it.
-use Rattle.std.proofs.Common.{◌≡◌, ℕ, zero, suc, ◌+◌, ◌-◌, ◌*◌, ◌<◌, ◌≤◌, Bool, true, false, cond, not, ◌&&◌, ◌||◌, leb, List, [], ◌∷◌, length, get_or, Some, None, Option, sym, refl, ap, ◌∙◌, subst, ⊎_elim, add_comm, arith}
-use Rattle.std.specs.List.{AllByRecursion as All}
+use Rattle.std.proofs.Common.{◌≡◌, ℕ, zero, suc, ◌+◌, ◌-◌, ◌*◌, ◌<◌, Bool, true, false, cond, not, ◌&&◌, ◌||◌, leb, List, [], ◌∷◌, length, get_or, Some, None, Option, sym, refl, ap, ◌∙◌, ⊎_elim, add_comm, arith}
 use Rattle.std.proofs.lemmas.Nat.{mul-le}
 use Rattle.std.proofs.lemmas.Bool.Decides.{nat_tests}
-use Rattle.std.proofs.lemmas.Bool.{and_parts, and_from, cond_both, cond-true, cond-false, cases_Bool, cases_eq, leb-true, leb-false, not-false, both_ways, or_left, or_right}
+use Rattle.std.proofs.lemmas.Bool.{and_parts, and_from, cond_both, cond-true, cond-false, cases_Bool, leb-true, leb-false, not-false, both_ways, or_left, or_right}
 use Rattle.parts.specs.declared.hole.Hole.{Hole}
 use Rattle.parts.specs.declared.bar.Bar.{Bar}
 use Rattle.parts.specs.declared.bolt.Bolt.{Bolt}
 use Rattle.parts.specs.declared.bolt.Size.{Size}
 use Rattle.parts.specs.declared.bolt.Size.TheVariants.{M16, M20, M22, M24}
 use Rattle.parts.specs.declared.fault.Fault.{Fault}
-use Rattle.sheet.specs.Account.{Line, first}
+use Rattle.sheet.specs.Account.{first}
 use Rattle.sheet.specs.Calls.{crowd_line, hole_fault, put_fault_by}
 use Rattle.parts.specs.Sizes.{diameter_of}
 use Rattle.parts.specs.Holes.{before, apart, gap, placed, drilled, centred}

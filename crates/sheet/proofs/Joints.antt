@@ -1,5 +1,5 @@
 -- A joint is sound, and shows all of its sheet.
-use Rattle.std.proofs.Common.{◌≡◌, ◌<◌, ◌≤◌, true, false, List, length, take, ℤ, is_some, Some, None, Option, refl, arith}
+use Rattle.std.proofs.Common.{◌≡◌, ◌<◌, true, false, List, take, ℤ, is_some, Some, None, Option, refl, arith}
 use Rattle.std.proofs.lemmas.Bool.{both_ways}
 use Rattle.parts.specs.declared.hole.Hole.{Hole}
 use Rattle.parts.specs.declared.bar.Bar.{Bar}

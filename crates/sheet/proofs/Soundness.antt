@@ -1,5 +1,5 @@
 -- What the tests of the sheet's type come to, for a sheet with bar, bolt and a hole.
-use Rattle.std.proofs.Common.{◌≡◌, ℕ, ◌+◌, ◌*◌, ◌<◌, ◌≤◌, Bool, true, false, ◌&&◌, ◌||◌, eqb, ltb, leb, ◌⊎◌, List, length, get_or, ℤ, is_some, Some, None, Option, unwrap_or, refl, inl, inr, ⊎_elim, arith}
+use Rattle.std.proofs.Common.{◌≡◌, ℕ, ◌<◌, ◌≤◌, true, false, ◌&&◌, List, length, get_or, ℤ, is_some, Some, None, Option, unwrap_or, refl, inl, inr, ⊎_elim, arith}
 use Rattle.std.proofs.lemmas.Bool.{and_parts, leb-true, cases_lt, both_ways}
 use Rattle.std.proofs.lemmas.Bool.Decides.{nat_tests}
 use Rattle.parts.specs.declared.hole.Hole.{Hole}
@@ -8,7 +8,7 @@ use Rattle.parts.specs.declared.bolt.Bolt.{Bolt}
 use Rattle.parts.specs.Holes.{before, apart, placed, drilled}
 use Rattle.parts.specs.Ranges.{bar_ranges, bolt_ranges}
 use Rattle.parts.specs.Sizes.{diameter_of}
-use Rattle.sheet.specs.Details.{Details, Sound, Placed, Drilled, Before, Apart, no_hole, no_bar, no_bolt}
+use Rattle.sheet.specs.Details.{Details, Sound, Placed, Drilled, Before, no_hole, no_bar, no_bolt}
 use Rattle.sheet.specs.Law.{lawful, holds, each, pairs, all_bearable}
 use Rattle.sheet.proofs.Bearable.{bearable_at}
 use Rattle.sheet.proofs.Holes.{each_at, pairs_at}

@@ -1,5 +1,5 @@
 -- A table of refusals gives its first line whose condition holds.
-use Rattle.std.proofs.Common.{◌≡◌, Bool, true, false, cond, List, [], ◌∷◌, ◌++◌, Some, None, Option, refl, ap}
+use Rattle.std.proofs.Common.{Bool, true, false, cond, List, [], ◌∷◌, Some, None, Option, refl, ap}
 use Rattle.parts.specs.declared.fault.Fault.{Fault}
 use Rattle.sheet.specs.Account.{Line, first, Foremost, FirstTells}
 

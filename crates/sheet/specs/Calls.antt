@@ -1,5 +1,5 @@
 -- Each call: when it is refused, and the account that it leaves where it is accepted.
-use Rattle.std.specs.Prelude.{◌≡◌, ℕ, ◌+◌, ◌<◌, Bool, true, false, not, ◌&&◌, List, [], ◌∷◌, ◌++◌, length, take, drop, ℤ, is_some, Some, None, Option, Result, nat_le, slice_set}
+use Rattle.std.specs.Prelude.{◌≡◌, ℕ, ◌+◌, ◌<◌, true, false, not, ◌&&◌, List, [], ◌∷◌, ◌++◌, length, take, drop, ℤ, is_some, Some, None, Option, Result, nat_le, slice_set}
 use Rattle.std.specs.Option.{option_map}
 use Rattle.parts.specs.declared.hole.Hole.{Hole}
 use Rattle.parts.specs.declared.bar.Bar.{Bar}

@@ -1,5 +1,5 @@
 -- One text after another on a draft.
-use Rattle.std.proofs.Common.{◌≡◌, ℕ, ◌≤◌, List, [], ◌∷◌, ◌++◌, length, take, sym, refl, ap, ◌∙◌, subst, arith}
+use Rattle.std.proofs.Common.{◌≡◌, ℕ, ◌≤◌, List, [], ◌++◌, length, take, sym, ap, ◌∙◌, subst, arith}
 use Rattle.std.proofs.lemmas.List.{append-nil, take_all, length-take}
 use Rattle.text.specs.Capacity.{capacity}
 use Rattle.text.specs.Drafts.{written, Adds}

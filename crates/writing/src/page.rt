@@ -16,7 +16,7 @@ use text::draft::Draft;
 // Judges a joint by a bank, and writes its page on an empty draft.
 fn write_page<B: Bank>(draft: &mut Draft, joint: Joint<'_>, bank: &B)
     requires { written draft.old ≡ [] }
-    ensures { Drafted (rated bank.now) (details joint.entry) draft.new }
+    ensures { Drafted (B.rated bank.now) (details joint.entry) draft.new }
 {
     let mut slip = [0; 32];
     let judgment = judge_joint(joint, bank, &mut slip);
@@ -30,7 +30,7 @@ fn write_page<B: Bank>(draft: &mut Draft, joint: Joint<'_>, bank: &B)
 
 // Judges a closed sheet by a bank, and writes its page to the front of `out`.
 pub fn page<B: Bank>(sheet: &Closed, bank: &B, out: &mut [u8]) -> Result<usize, PageFault>
-    ensures { Pages (rated bank.now) (closed_account sheet.now) out.old result out.new }
+    ensures { Pages (B.rated bank.now) (closed_account sheet.now) out.old result out.new }
 {
     let joint = match Joint::of(sheet.sheet()) {
         Ok(joint) => joint,

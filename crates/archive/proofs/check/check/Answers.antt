@@ -7,7 +7,7 @@ use Rattle.archive.proofs.check.check.Goals as goal
 pub returns-in-Err : goal.returns-in-Err
 returns-in-Err c =
     record {
-      answer = laid_check c.args.text.now _ _ _ _ (inr (c.in-Err.fault, c.in-Err.ensures, refl)) c.write-refusal.ensures;
+      answer = laid_check c.args.text.now _ _ _ _ (inr (c.in-Err.fault, c.in-Err.ensures, refl)) c.write_refusal.ensures;
       again = pages_read_again;
     }
 

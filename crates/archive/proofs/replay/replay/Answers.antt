@@ -11,16 +11,16 @@ use Rattle.archive.proofs.replay.replay.Goals as goal
 pub loop-place-init : goal.loop-place-init
 loop-place-init g c = ran_none _ _ _ _ c.new-answers.ensures.items c.new.ensures
 
-pub returns-in-err-next : goal.returns-in-err-next
-returns-in-err-next g c =
-    let p = err_from_is_err_and c.from-residual.result c.from-residual.ensures.1 in
-    let halts = ran_halts _ _ _ _ _ _ c.in-err-next.field-0.0 c.loop-place.invariant c.loop-place-test.true c.in-err-next.ensures in
+pub returns-in_err-next : goal.returns-in_err-next
+returns-in_err-next g c =
+    let p = err_from_is_err_and c.from_residual.result c.from_residual.ensures.1 in
+    let halts = ran_halts _ _ _ _ _ _ c.in_err-next.field-0.0 c.loop-place.invariant c.loop-place-test.true c.in_err-next.ensures in
     let is = sym (p.1 ∙ ap Err p.2) in
     record { replays = subst (Replays _ _) is halts; holes = holes_stand; loads = loads_last; promises = subst (Promises _ _) is tt }
 
 pub loop-place-preserved : goal.loop-place-preserved
 loop-place-preserved g c =
-    ran_more _ _ _ _ _ _ _ _ _ c.loop-place.invariant c.loop-place-test.true c.in-ok-next.ensures c.in-ok-push.ensures.items
+    ran_more _ _ _ _ _ _ _ _ _ c.loop-place.invariant c.loop-place-test.true c.in_ok-next.ensures c.in_ok-push.ensures.items
 
 pub returns : goal.returns
 returns g c =
@@ -28,5 +28,5 @@ returns g c =
     let run = ran_all _ _ _ _ _ all c.loop-place.invariant in
     record { replays = run; holes = holes_stand; loads = loads_last; promises = all_kept _ _ _ run }
 
-pub returns-in-err-push : goal.returns-in-err-push
-returns-in-err-push g c = record { replays = search rules; holes = holes_stand; loads = loads_last; promises = search rules }
+pub returns-in_err-push : goal.returns-in_err-push
+returns-in_err-push g c = record { replays = search rules; holes = holes_stand; loads = loads_last; promises = search rules }

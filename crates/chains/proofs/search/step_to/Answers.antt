@@ -14,8 +14,8 @@ lengthened-net-requires c =
     record {
       fine = (omega (arith, ints), fine.1);
       small = c.requires.ready.small c.args.i c.requires.here;
-      low-far = c.requires.ready.far c.loop-j.j here;
-      high-far = c.requires.ready.far c.args.i c.requires.here;
+      low_far = c.requires.ready.far c.loop-j.j here;
+      high_far = c.requires.ready.far c.args.i c.requires.here;
       rising = ltb-true _ _ (sym c.rises.ensures ∙ c.if-rises.true);
     }
 

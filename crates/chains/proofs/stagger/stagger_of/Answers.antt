@@ -1,9 +1,9 @@
 use Rattle.std.proofs.Common.{◌*◌, ◌≤◌, mul-le-mul, arith}
 use Rattle.chains.proofs.stagger.stagger_of.Goals as goal
 
-pub overflow-mul-result-2 : goal.overflow-mul-result-2
-overflow-mul-result-2 c =
-    let s = c.abs-diff-s.result in
+pub overflow_mul-result-2 : goal.overflow_mul-result-2
+overflow_mul-result-2 c =
+    let s = c.abs_diff-s.result in
     let far : s ≤ 1200 = omega arith in
     let square : s * s ≤ 1200 * 1200 = mul-le-mul far far in
     omega arith

@@ -4,8 +4,8 @@ use Rattle.judging.specs.Factors.{factor_of}
 use Rattle.judging.proofs.Factors.{Small, factor_is, factor_small, part_bounds, part_fits}
 use Rattle.judging.proofs.rows.part.Goals as goal
 
-pub overflow-mul-result : goal.overflow-mul-result
-overflow-mul-result c =
+pub overflow_mul-result : goal.overflow_mul-result
+overflow_mul-result c =
     let f = c.factor.result in
     let z = c.args.load in
     let is : f ≡ factor_of c.args.place = c.factor.ensures ∙ factor_is c.args.place c.requires in
@@ -28,6 +28,6 @@ returns c =
     let h = part_bounds f z small short in
     record {
       value = simp to_z-of_z (ap (λ x. x *ℤ z) is);
-      low-bound = simp to_z-of_z h.0;
-      high-bound = simp to_z-of_z h.1;
+      low_bound = simp to_z-of_z h.0;
+      high_bound = simp to_z-of_z h.1;
     }

@@ -8,7 +8,7 @@ loop-k-preserved c =
     let so = c.loop-k.invariant in
     let told = c.part-sum.ensures in
     let fits : SFits w32 (get_or c.args.loads.now c.loop-k.k (pos 0)) = search rules in
-    turn c.args.loads.now c.args.i c.loop-k.k _ c.part-sum.result so.0 so.1 c.loop-k-test.true told.low-bound told.high-bound told.value fits
+    turn c.args.loads.now c.args.i c.loop-k.k _ c.part-sum.result so.0 so.1 c.loop-k-test.true told.low_bound told.high_bound told.value fits
 
 pub returns : goal.returns
 returns c =

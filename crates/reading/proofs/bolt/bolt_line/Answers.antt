@@ -4,19 +4,19 @@ use Rattle.reading.proofs.BoltTold.{bolt_shape, bolt_told}
 use Rattle.reading.proofs.Forward.{faulty_line}
 use Rattle.reading.proofs.bolt.bolt_line.Goals as goal
 
-pub returns-in-default : goal.returns-in-default
-returns-in-default c = record { goes = λ text b at. faulty_line (bolt_named b) at (omega arith) (inl (refl, c.in-default.ensures)) }
+pub returns-in_default : goal.returns-in_default
+returns-in_default c = record { goes = λ text b at. faulty_line (bolt_named b) at (omega arith) (inl (refl, c.in_default.ensures)) }
 
-pub returns-in-default-named : goal.returns-in-default-named
-returns-in-default-named c = record {
+pub returns-in_default-named : goal.returns-in_default-named
+returns-in_default-named c = record {
   goes = λ text b at.
       faulty_line (bolt_named b) at (omega arith)
-      (inr (inl (refl, (bolt_shape c.args.cursor.now _ (c.in-Some.name, c.in-Some.stress, c.in-Some.planes) c.in-Some.ensures, c.in-default-named.ensures))));
+      (inr (inl (refl, (bolt_shape c.args.cursor.now _ (c.in-Some.name, c.in-Some.stress, c.in-Some.planes) c.in-Some.ensures, c.in_default-named.ensures))));
 }
 
 pub returns : goal.returns
 returns c = record {
   goes = λ text b at.
-      bolt_told b (c.in-Some.name, c.in-Some.stress, c.in-Some.planes) c.in-Some-named.size c.number.result c.line-line.result c.bolt.result c.on-line.result
-      at c.in-Some.ensures c.in-Some-named.ensures c.number.ensures c.line-line.ensures.count c.bolt.ensures c.on-line.ensures;
+      bolt_told b (c.in-Some.name, c.in-Some.stress, c.in-Some.planes) c.in-Some-named.size c.number.result c.line-line.result c.bolt.result c.on_line.result
+      at c.in-Some.ensures c.in-Some-named.ensures c.number.ensures c.line-line.ensures.count c.bolt.ensures c.on_line.ensures;
 }

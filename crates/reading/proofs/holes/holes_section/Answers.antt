@@ -3,10 +3,10 @@ use Rattle.reading.proofs.Forward.{◌then◌, broke}
 use Rattle.reading.proofs.Headed.{holes_headed, holes_misheaded}
 use Rattle.reading.proofs.holes.holes_section.Goals as goal
 
-pub returns-in-err-count : goal.returns-in-err-count
-returns-in-err-count c =
-    let p = err_from_is_err_and c.from-residual.result c.from-residual.ensures.1 in
-    broke (holes_misheaded _ _ c.in-err-count.ensures) p.1 p.2
+pub returns-in_err-count : goal.returns-in_err-count
+returns-in_err-count c =
+    let p = err_from_is_err_and c.from_residual.result c.from_residual.ensures.1 in
+    broke (holes_misheaded _ _ c.in_err-count.ensures) p.1 p.2
 
 pub returns : goal.returns
-returns c = holes_headed _ _ c.in-ok-count.ensures then c.hole_lines.ensures
+returns c = holes_headed _ _ c.in_ok-count.ensures then c.hole_lines.ensures

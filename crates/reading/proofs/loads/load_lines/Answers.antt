@@ -4,10 +4,10 @@ use Rattle.reading.proofs.Forward.{◌then◌, ◌fails◌, broke}
 use Rattle.reading.proofs.Letters.{marks_none}
 use Rattle.reading.proofs.loads.load_lines.Goals as goal
 
-pub returns-in-err-load-line : goal.returns-in-err-load-line
-returns-in-err-load-line c =
-    let p = err_from_is_err_and c.from-residual.result c.from-residual.ensures.1 in
-    broke (c.loop-i.invariant fails record { faulty = (c.in-err-load-line.ensures c.loop-i.-i (omega arith)).goes }) p.1 p.2
+pub returns-in_err-load_line : goal.returns-in_err-load_line
+returns-in_err-load_line c =
+    let p = err_from_is_err_and c.from_residual.result c.from_residual.ensures.1 in
+    broke (c.loop-i.invariant fails record { faulty = (c.in_err-load_line.ensures c.loop-i._i (omega arith)).goes }) p.1 p.2
 
 pub loop-i-init : goal.loop-i-init
 loop-i-init c = record {
@@ -15,7 +15,7 @@ loop-i-init c = record {
 }
 
 pub loop-i-preserved : goal.loop-i-preserved
-loop-i-preserved c = c.loop-i.invariant then c.in-ok-load-line.ensures c.loop-i.-i (omega arith)
+loop-i-preserved c = c.loop-i.invariant then c.in_ok-load_line.ensures c.loop-i._i (omega arith)
 
 pub returns : goal.returns
 returns c = record {

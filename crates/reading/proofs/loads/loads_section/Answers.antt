@@ -3,10 +3,10 @@ use Rattle.reading.proofs.Forward.{◌then◌, broke}
 use Rattle.reading.proofs.Headed.{loads_headed, loads_misheaded}
 use Rattle.reading.proofs.loads.loads_section.Goals as goal
 
-pub returns-in-err-header : goal.returns-in-err-header
-returns-in-err-header c =
-    let p = err_from_is_err_and c.from-residual.result c.from-residual.ensures.1 in
-    broke (loads_misheaded _ _ c.in-err-header.ensures) p.1 p.2
+pub returns-in_err-header : goal.returns-in_err-header
+returns-in_err-header c =
+    let p = err_from_is_err_and c.from_residual.result c.from_residual.ensures.1 in
+    broke (loads_misheaded _ _ c.in_err-header.ensures) p.1 p.2
 
 pub returns : goal.returns
-returns c = loads_headed _ _ c.in-ok-header.ensures then c.load-lines.ensures
+returns c = loads_headed _ _ c.in_ok-header.ensures then c.load_lines.ensures

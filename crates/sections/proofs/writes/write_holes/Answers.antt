@@ -11,7 +11,7 @@ loop-hole-init c = none_added _
 
 pub loop-hole-preserved : goal.loop-hole-preserved
 loop-hole-preserved c =
-    same (sym (joined_take hole_line c.args.holes.now c.loop-hole.hole-index _ c.loop-hole-test.true)) (c.loop-hole.invariant then c.write-hole.ensures)
+    same (sym (joined_take hole_line c.args.holes.now c.loop-hole.hole-index _ c.loop-hole-test.true)) (c.loop-hole.invariant then c.write_hole.ensures)
 
 pub returns : goal.returns
 returns c = c.header.ensures then same (ap (flat_map hole_line) (take_all c.loop-hole.hole-index c.args.holes.now (omega arith))) c.loop-hole.invariant

@@ -9,5 +9,5 @@ pub returns : goal.returns
 returns c = (
   all_kinds,
   record { once = IsPermutation-refl _ },
-  c.header.ensures then c.write-load.ensures then c.write-load-2.ensures then c.write-load-3.ensures then c.write-load-4.ensures then c.write-load-5.ensures then c.write-load-6.ensures then same (sym (append-nil _)) c.write-load-7.ensures,
+  c.header.ensures then c.write_load.ensures then c.write_load-2.ensures then c.write_load-3.ensures then c.write_load-4.ensures then c.write_load-5.ensures then c.write_load-6.ensures then same (sym (append-nil _)) c.write_load-7.ensures,
 )

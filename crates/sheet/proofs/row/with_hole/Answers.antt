@@ -1,4 +1,4 @@
-use Rattle.std.proofs.Common.{◌≡◌, ℕ, ◌≤◌, ◌∷◌, ◌++◌, length, take, drop, sym, refl, ap, ◌∙◌, subst, arith, rules}
+use Rattle.std.proofs.Common.{◌≡◌, ℕ, ◌≤◌, ◌∷◌, ◌++◌, length, take, drop, sym, refl, ap, ◌∙◌, arith, rules}
 use native.Mathlib.Nat.{sub-zero}
 use Rattle.std.proofs.lemmas.Slice.{overwrites}
 use Rattle.parts.specs.Holes.{before}
@@ -8,13 +8,13 @@ use Rattle.sheet.proofs.row.with_hole.Goals as goal
 
 pub returns : goal.returns
 returns c =
-    let p = c.place-of-place.result in
+    let p = c.place_of-place.result in
     let h = c.args.hole in
     let hs = take c.args.count c.args.holes in
     let all : length c.args.holes ≡ 32 = search rules in
     let early : p ≤ c.args.count = search rules in
-    let at : p ≡ front (λ k. before k h) hs = rw sub-zero at c.place-of-place.ensures.value in
-    let moved = rotated c.args.holes c.args.count p h (omega (arith, c.requires)) early _ _ refl c.rotate-right.ensures.after in
+    let at : p ≡ front (λ k. before k h) hs = rw sub-zero at c.place_of-place.ensures.value in
+    let moved = rotated c.args.holes c.args.count p h (omega (arith, c.requires)) early _ _ refl c.rotate_right.ensures.after in
     record {
       long = search (rules, overwrites);
       row =

@@ -8,5 +8,5 @@ returns c =
     let all : length c.args.holes ≡ 32 = search rules in
     record {
       long = search (rules, overwrites);
-      row = row_less c.args.holes c.args.count c.args.place (omega (arith, c.requires.few)) c.requires.within _ _ refl c.rotate-left.ensures.after;
+      row = row_less c.args.holes c.args.count c.args.place (omega (arith, c.requires.few)) c.requires.within _ _ refl c.rotate_left.ensures.after;
     }

@@ -16,15 +16,15 @@ returns g c =
     let j = c.args.joint in
     let d = details j in
     let sound = joint_sound j in
-    let tells = c.judge-joint-judgment.ensures in
-    let judgment = c.judge-joint-judgment.result in
-    let loads = c.write-loads.ensures in
+    let tells = c.judge_joint-judgment.ensures in
+    let judgment = c.judge_joint-judgment.result in
+    let loads = c.write_loads.ensures in
     let bounded = tells_bounded tells sound (g.met.B.Bank.lawful c.args.bank.now d sound) in
     let added =
-    (same (ap bar_text c.bar.ensures) c.write-bar.ensures then same (ap bolt_text c.bolt.ensures) c.write-bolt.ensures
-    then same (ap holes_text c.holes.ensures) c.write-holes.ensures
+    (same (ap bar_text c.bar.ensures) c.write_bar.ensures then same (ap bolt_text c.bolt.ensures) c.write_bolt.ensures
+    then same (ap holes_text c.holes.ensures) c.write_holes.ensures
     then same (ap (λ ns. loads_text (loads_in loads.0 ns)) c.loads.ensures) loads.2)
-    then c.write-verdict.ensures then same (ap chain_text (c.numbers-on.ensures ∙ tells.reads)) c.write-chain.ensures in
+    then c.write_verdict.ensures then same (ap chain_text (c.numbers_on.ensures ∙ tells.reads)) c.write_chain.ensures in
     let named = tells_named tells in
     let few = subst (λ (ns : List ℕ). length ns ≤ 32) tells.reads (told_few d sound _ _ _ named) in
     let all =

@@ -11,7 +11,7 @@ loop-number-init c = none_added _
 
 pub loop-number-preserved : goal.loop-number-preserved
 loop-number-preserved c =
-    same (sym (joined_take chain_line c.args.numbers.now c.loop-number.number-index 0 c.loop-number-test.true)) (c.loop-number.invariant then c.write-number.ensures)
+    same (sym (joined_take chain_line c.args.numbers.now c.loop-number.number-index 0 c.loop-number-test.true)) (c.loop-number.invariant then c.write_number.ensures)
 
 pub returns : goal.returns
 returns c = c.header.ensures then same (ap (flat_map chain_line) (take_all c.loop-number.number-index c.args.numbers.now (omega arith))) c.loop-number.invariant

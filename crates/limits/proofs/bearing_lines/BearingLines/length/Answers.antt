@@ -13,37 +13,37 @@ loop-line-init c =
     walk_begins (details c.args.joint) _ _ (joint_sound c.args.joint)
     (c.diameter-diameter.ensures ∙ ap (λ b. diameter_of b.size) c.bolt.ensures) c.holes-rest.ensures
 
-pub bearing-length-sum-requires : goal.bearing-length-sum-requires
-bearing-length-sum-requires c = record {
+pub bearing_length-sum-requires : goal.bearing_length-sum-requires
+bearing_length-sum-requires c = record {
   small = omega (arith, c.diameter-diameter.ensures, diameter_most c.bolt.result.size);
   few = walk_few _ _ _ _ (line_of c.in-Some.line) c.loop-line.invariant c.in-Some.ensures;
   rising = walk_line _ _ _ _ (line_of c.in-Some.line) c.loop-line.invariant c.in-Some.ensures;
 }
 
-pub overflow-add-sum : goal.overflow-add-sum
-overflow-add-sum c =
+pub overflow_add-sum : goal.overflow_add-sum
+overflow_add-sum c =
     let small : c.diameter-diameter.result ≤ 24 = omega (arith, c.diameter-diameter.ensures, diameter_most c.bolt.result.size) in
-    omega (arith, walk_fits _ _ _ _ (line_of c.in-Some.line) c.loop-line.invariant c.in-Some.ensures _ small c.bearing-length-sum.ensures)
+    omega (arith, walk_fits _ _ _ _ (line_of c.in-Some.line) c.loop-line.invariant c.in-Some.ensures _ small c.bearing_length-sum.ensures)
 
 pub len-requires : goal.len-requires
 len-requires c = walk_few _ _ _ _ (line_of c.in-Some.line) c.loop-line.invariant c.in-Some.ensures
 
-pub slice-bounds-rest-count : goal.slice-bounds-rest-count
-slice-bounds-rest-count c = omega (arith, walk_within _ _ _ _ (line_of c.in-Some.line) c.loop-line.invariant c.in-Some.ensures, c.len.ensures)
+pub slice_bounds-rest-count : goal.slice_bounds-rest-count
+slice_bounds-rest-count c = omega (arith, walk_within _ _ _ _ (line_of c.in-Some.line) c.loop-line.invariant c.in-Some.ensures, c.len.ensures)
 
-pub slice-bounds-rest-start : goal.slice-bounds-rest-start
-slice-bounds-rest-start c =
+pub slice_bounds-rest-start : goal.slice_bounds-rest-start
+slice_bounds-rest-start c =
     let within = walk_within _ _ _ _ (line_of c.in-Some.line) c.loop-line.invariant c.in-Some.ensures in
     search rules
 
 pub loop-line-preserved : goal.loop-line-preserved
 loop-line-preserved c =
     let small : c.diameter-diameter.result ≤ 24 = omega (arith, c.diameter-diameter.ensures, diameter_most c.bolt.result.size) in
-    walk_on _ _ _ _ (line_of c.in-Some.line) c.loop-line.invariant c.in-Some.ensures _ _ small c.len.ensures c.bearing-length-sum.ensures
+    walk_on _ _ _ _ (line_of c.in-Some.line) c.loop-line.invariant c.in-Some.ensures _ _ small c.len.ensures c.bearing_length-sum.ensures
 
 pub returns : goal.returns
 returns c = record {
-  sum = walk_ends _ _ _ _ _ _ c.loop-line.invariant c.in-default.ensures
+  sum = walk_ends _ _ _ _ _ _ c.loop-line.invariant c.in_default.ensures
       (c.diameter-diameter.ensures ∙ ap (λ b. diameter_of b.size) c.bolt.ensures) c.holes-rest.ensures;
   lined = sound_lined (details c.args.joint) (joint_sound c.args.joint);
 }

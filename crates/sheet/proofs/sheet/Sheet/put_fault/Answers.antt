@@ -7,10 +7,10 @@ pub returns : goal.returns
 returns c =
     put_fault_at c.in-Some.bar c.in-Some-bolt.bolt c.args.hole.now c.in-Some.is c.in-Some-bolt.is c.row.ensures c.hole_fault.ensures
 
-pub returns-in-default : goal.returns-in-default
+pub returns-in_default : goal.returns-in_default
 unfolding put_fault_by
-returns-in-default c = search rules
+returns-in_default c = search rules
 
-pub returns-in-default-bolt : goal.returns-in-default-bolt
+pub returns-in_default-bolt : goal.returns-in_default-bolt
 unfolding put_fault_by
-returns-in-default-bolt c = search rules
+returns-in_default-bolt c = search rules

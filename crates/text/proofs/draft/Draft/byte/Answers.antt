@@ -1,5 +1,5 @@
-use Rattle.std.proofs.Common.{◌≡◌, ◌+◌, ◌≤◌, [], ◌∷◌, length, take, sym, ap, ◌∙◌, arith}
-use Rattle.std.proofs.lemmas.List.{take_more_set, take_all, take_at, take-append-le, length-take-le, length_push}
+use Rattle.std.proofs.Common.{[], ◌∷◌, sym, ◌∙◌, arith}
+use Rattle.std.proofs.lemmas.List.{take_more_set, take_all, take_at, length-take-le, length_push}
 use Rattle.text.specs.Capacity.{capacity}
 use Rattle.text.specs.Drafts.{written}
 use Rattle.text.proofs.draft.Draft.byte.Goals as goal

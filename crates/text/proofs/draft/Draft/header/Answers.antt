@@ -1,4 +1,4 @@
-use Rattle.std.proofs.Common.{◌≡◌, List, [], ◌∷◌, ◌∙◌}
+use Rattle.std.proofs.Common.{[]}
 use Rattle.text.specs.Words.{header}
 use Rattle.text.proofs.Chained.{◌then◌, same}
 use Rattle.text.proofs.Spelled.{one_spelled, more_spelled}

@@ -12,7 +12,7 @@ returns c =
     let w = c.args.w.now in
     let n = c.min-n.result in
     let all : n - 0 ≡ n = omega arith in
-    let copied = c.copy-from-slice.ensures.after ∙ ap (λ m. take m w) all in
+    let copied = c.copy_from_slice.ensures.after ∙ ap (λ m. take m w) all in
     let long = length-take-le d.len d.bytes (omega arith) in
     record {
       is =

@@ -11,8 +11,8 @@ loop-rest-init c =
     let places = c.args.places.now in
     (omega arith, omega arith, c.requires, sym (ap (λ l. decimal n ++ l) (drop_all (length places) places (omega arith)) ∙ append-nil (decimal n)))
 
-pub overflow-sub-start : goal.overflow-sub-start
-overflow-sub-start c = omega (arith, one_more c.loop-rest.rest (omega arith) (omega arith))
+pub overflow_sub-start : goal.overflow_sub-start
+overflow_sub-start c = omega (arith, one_more c.loop-rest.rest (omega arith) (omega arith))
 
 pub bounds-places-start : goal.bounds-places-start
 bounds-places-start c = omega (arith, one_more c.loop-rest.rest (omega arith) (omega arith))

@@ -5,6 +5,6 @@ use Rattle.sheet.proofs.sheet.joint.Joint.of.Goals as goal
 
 pub returns : goal.returns
 returns c =
-    let p = c.if-is-none.ensures in
-    let q = c.if-is-none-2.ensures in
-    (no_fault (account c.args.sheet.now) p q (sym c.if-is-empty.ensures), all_shown _ _ _ _ p q, sheet_sound c.args.sheet.now p q (search rules))
+    let p = c.if-is_none.ensures in
+    let q = c.if-is_none-2.ensures in
+    (no_fault (account c.args.sheet.now) p q (sym c.if-is_empty.ensures), all_shown _ _ _ _ p q, sheet_sound c.args.sheet.now p q (search rules))

@@ -2,6 +2,14 @@ use Rattle.std.proofs.Common.{sym, rules}
 use Rattle.sheet.proofs.Holes.{law_none}
 use Rattle.sheet.proofs.sheet.open.Open.bolt.Goals as goal
 
-pub invariant-of-self : goal.invariant-of-self
-invariant-of-self c =
-    (search rules, (search rules, (search rules, (search rules, (search rules, (search rules, (law_none _ _ _ (sym c.if-not-is-empty.ensures), tt)))))))
+pub invariant_of-self : goal.invariant_of-self
+invariant_of-self c =
+    record {
+      long = search rules;
+      few = search rules;
+      bar_ok = search rules;
+      bolt_ok = search rules;
+      seven = search rules;
+      bearable = search rules;
+      law = law_none _ _ _ (sym c.if-not-is_empty.ensures);
+    }

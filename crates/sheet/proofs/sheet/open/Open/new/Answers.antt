@@ -2,6 +2,6 @@ use Rattle.std.proofs.Common.{rules}
 use Rattle.sheet.specs.Law.{lawful}
 use Rattle.sheet.proofs.sheet.open.Open.new.Goals as goal
 
-pub invariant-of-result : goal.invariant-of-result
+pub invariant_of-result : goal.invariant_of-result
 unfolding lawful
-invariant-of-result c = search rules
+invariant_of-result c = search rules

@@ -5,12 +5,20 @@ use Rattle.sheet.proofs.Holes.{law_without, law_pairs}
 use Rattle.sheet.proofs.Numbers.{leaves}
 use Rattle.sheet.proofs.sheet.open.Open.take.Goals as goal
 
-pub invariant-of-self : goal.invariant-of-self
-invariant-of-self c =
+pub invariant_of-self : goal.invariant_of-self
+invariant_of-self c =
     let s = c.args.self.now.sheet in
     let row = c.without_hole.ensures.row ∙ sym c.in-Some.ensures.2 in
     let kept = law_without s.bar s.bolt c.args.x c.args.y _ s.law in
-    (c.without_hole.ensures.long, (omega arith, (s.bar_ok, (s.bolt_ok, (s.seven, (s.bearable, (ap (lawful s.bar s.bolt) row ∙ kept, tt)))))))
+    record {
+      long = c.without_hole.ensures.long;
+      few = omega arith;
+      bar_ok = s.bar_ok;
+      bolt_ok = s.bolt_ok;
+      seven = s.seven;
+      bearable = s.bearable;
+      law = ap (lawful s.bar s.bolt) row ∙ kept;
+    }
 
 pub returns : goal.returns
 returns c =
