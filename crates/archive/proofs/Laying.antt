@@ -1,17 +1,16 @@
 -- A text that is accepted, and an answer that is laid into the buffer.
-use Rattle.std.proofs.Common.{◌≡◌, ℕ, ◌+◌, ◌^◌, ◌<◌, ◌≤◌, List, [], ◌∷◌, ◌++◌, length, drop, Some, None, Ok, Err, codes, decimal, Option, Result, sym, ap, ◌∙◌, subst, inl, inr, arith, length-append}
+use Rattle.std.proofs.Common.{◌≡◌, ℕ, ◌^◌, ◌<◌, ◌≤◌, List, [], ◌∷◌, length, Some, None, Ok, Err, codes, decimal, Result, sym, ap, ◌∙◌, inl, arith, length-append}
 use Rattle.sheet.specs.Account.{Account}
 use Rattle.sheet.specs.Calls.{joint_fault}
 use Rattle.limits.specs.Norm.{norm_ratings}
 use Rattle.reading.specs.Beginnings.{loading, written}
 use Rattle.reading.specs.Reads.{Accepted}
 use Rattle.text.specs.Capacity.{capacity}
-use Rattle.text.specs.Words.{line}
 use Rattle.text.proofs.Lengths.{decimal_long, line_one, line_more}
-use Rattle.writing.specs.Pages.{Paged, Pages}
+use Rattle.writing.specs.Pages.{Pages}
 use Rattle.writing.specs.declared.fault.PageFault.{PageFault}
 use Rattle.writing.specs.declared.fault.PageFault.TheVariants.{Sheet, NoRoom as NoPageRoom}
-use Rattle.archive.specs.Checks.{Answers, Wrong, Checks, Lays, refused_line}
+use Rattle.archive.specs.Checks.{Answers, Checks, Lays, refused_line}
 use Rattle.archive.specs.Faults.{check_number, check_line}
 use Rattle.archive.specs.declared.fault.CheckFault.{CheckFault}
 use Rattle.archive.specs.declared.fault.NoRoom.{NoRoom}

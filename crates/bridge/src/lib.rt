@@ -1,4 +1,4 @@
-// Checking a text, for a program in another language.
+// Checking a text, told by one number: what a program in another language calls.
 #![tactic(auto)]
 
 ghost use Rattle.std.specs.Prelude.{◌≡◌};
@@ -7,8 +7,7 @@ ghost use Rattle.bridge.specs.Told.{Told};
 use archive::check::check;
 
 // How many bytes of `out` are the answer; or the greatest number there is, where the answer does not fit and `out` is left.
-#[unsafe(no_mangle)]
-pub extern "C" fn wurgelzit_check(text: &[u8], out: &mut [u8]) -> usize
+pub fn wurgelzit_check(text: &[u8], out: &mut [u8]) -> usize
     ensures { Told text.now out.old result out.new }
 {
     match check(text, out) {

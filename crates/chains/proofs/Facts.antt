@@ -1,5 +1,5 @@
 -- What holds of every joint, for those who build on its net width and its least chain.
-use Rattle.std.proofs.Common.{◌≡◌, ℕ, ◌*◌, ◌<◌, ◌≤◌, List, [], ◌∷◌, reverse, length, get_or, ℤ, pos, negsuc, ◌≤ℤ◌, sym, ap, ◌∙◌, subst, ⊎_elim, arith}
+use Rattle.std.proofs.Common.{◌≡◌, ℕ, ◌<◌, ◌≤◌, List, [], ◌∷◌, reverse, length, get_or, ℤ, pos, negsuc, ◌≤ℤ◌, sym, ap, ◌∙◌, subst, ⊎_elim, arith}
 use mathlib.Core.List.{reverse-reverse}
 use borrow.Author.Differences.{ints}
 use Rattle.std.specs.List.{AllByRecursion as All}

@@ -1,5 +1,5 @@
 -- How far a row can be from zero: no row has more than 36 tenths of its loads together.
-use Rattle.std.proofs.Common.{ℕ, ◌<◌, ◌≤◌, List, get_or, ℤ, pos, negsuc, ◌≤ℤ◌, sym, ap, ◌∙◌, subst, zero-add, arith}
+use Rattle.std.proofs.Common.{ℕ, ◌<◌, List, get_or, ℤ, pos, negsuc, ◌≤ℤ◌, sym, ap, ◌∙◌, subst, zero-add, arith}
 use Rattle.std.specs.List.{range_with_len, AllByRecursion as All}
 use Rattle.std.proofs.lemmas.List.FromFn.{get_or-range_with_len}
 use Rattle.std.proofs.ByRecursion.{All-get_or}

@@ -1,10 +1,10 @@
 -- The first of the weakest.
-use Rattle.std.proofs.Common.{◌≡◌, ℕ, List, [], ◌∷◌, ◌++◌, ℤ, pos, ◌≤ℤ◌, ◌<ℤ◌, sym, refl, ap, ◌∙◌, subst, arith}
+use Rattle.std.proofs.Common.{◌≡◌, ℕ, List, [], ◌∷◌, ◌++◌, pos, ◌≤ℤ◌, ◌<ℤ◌, sym, subst, arith}
 use Rattle.std.specs.List.{AllByRecursion as All}
 use Rattle.std.proofs.ByRecursion.{All-weaker}
 use Rattle.std.proofs.lemmas.Int.{ints, by_lt_z}
 use Rattle.limits.specs.declared.rated.Rated.{Rated}
-use Rattle.limits.specs.Foremost.{Foremost, Ranking}
+use Rattle.limits.specs.Foremost.{Ranking}
 use Rattle.limits.specs.Rating.{rating, strength_of, Weaker, FirstWeakest}
 use Rattle.limits.proofs.First.{lone_first, none_beats, first_wins, second_wins}
 

@@ -1,5 +1,5 @@
 -- How long the first four sections can be.
-use Rattle.std.proofs.Common.{◌≡◌, ℕ, suc, ◌+◌, ◌*◌, ◌^◌, ◌<◌, ◌≤◌, List, [], ◌∷◌, ◌++◌, map, length, get_or, ℤ, pos, negsuc, ◌≤ℤ◌, codes, decimal, ap, ◌∙◌, arith, length-append}
+use Rattle.std.proofs.Common.{◌≡◌, ℕ, ◌+◌, ◌^◌, ◌<◌, ◌≤◌, List, [], ◌∷◌, ◌++◌, length, get_or, ℤ, pos, negsuc, ◌≤ℤ◌, codes, decimal, arith, length-append}
 use lib.Signed.{mag}
 use Rattle.std.specs.List.{flat_map, AllByRecursion as All}
 use Rattle.std.specs.Fmt.{signed_decimal}
@@ -7,8 +7,6 @@ use Rattle.std.proofs.ByRecursion.{All-from_get_or, All-map}
 use Rattle.std.proofs.lemmas.List.{length-map}
 use Rattle.std.proofs.lemmas.Int.{ints}
 use Rattle.std.proofs.lemmas.List.Sorted.{length_permutation}
-use Rattle.parts.specs.declared.bar.Bar.{Bar}
-use Rattle.parts.specs.declared.bolt.Bolt.{Bolt}
 use Rattle.parts.specs.declared.bolt.Size.{Size}
 use Rattle.parts.specs.declared.bolt.Size.TheVariants.{M16, M20, M22, M24}
 use Rattle.parts.specs.declared.hole.Hole.{Hole}
@@ -19,10 +17,10 @@ use Rattle.parts.specs.declared.steel.Steel.TheVariants.{A36, A529, A572Grade42,
 use Rattle.parts.specs.LoadKinds.{letter_of, kind_number}
 use Rattle.parts.specs.Sizes.{size_name, diameter_of}
 use Rattle.parts.specs.Steels.{steel_name}
-use Rattle.sheet.specs.Details.{Details, Sound, Placed, Drilled, no_hole}
+use Rattle.sheet.specs.Details.{Details, Sound, no_hole}
 use Rattle.text.specs.Words.{line, header}
 use Rattle.text.proofs.Lengths.{decimal_long, signed_long, line_one, line_more, header_long, joined_long}
-use Rattle.sections.specs.Texts.{Load, LoadOrder, all_kinds, load_at, loads_in, bar_text, bolt_text, hole_line, holes_text, load_line, loads_text, sections_text}
+use Rattle.sections.specs.Texts.{LoadOrder, all_kinds, load_at, loads_in, bar_text, bolt_text, hole_line, holes_text, load_line, loads_text, sections_text}
 
 steel_short : (s : Steel) → length (steel_name s) ≤ 7
 steel_short A36 = omega arith

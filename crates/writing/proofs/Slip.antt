@@ -1,6 +1,5 @@
 -- The numbers on a slip, up to its first 0.
-use Rattle.std.proofs.Common.{◌≡◌, ℕ, zero, suc, ◌+◌, ◌-◌, ◌<◌, ◌≤◌, List, [], ◌∷◌, length, get_or, take, sym, refl, ap, ◌∙◌, arith}
-use native.Mathlib.Nat.{sub-zero}
+use Rattle.std.proofs.Common.{◌≡◌, ℕ, zero, suc, ◌<◌, List, [], ◌∷◌, length, get_or, take, refl, ap, arith}
 use Rattle.chains.specs.Slips.{told}
 
 pub told_before : (ss : List ℕ) (i : ℕ) → i < length ss → get_or ss i 0 ≡ 0 → ((k : ℕ) → k < i → get_or ss k 0 ≡ 0 → ⊥) → take i ss ≡ told ss

@@ -1,4 +1,4 @@
-use Rattle.std.proofs.Common.{◌≡◌, ℕ, [], ◌∷◌, get_or, pos, ap, ◌∙◌, w32, SFits, rules}
+use Rattle.std.proofs.Common.{ℕ, [], ◌∷◌, get_or, pos, ap, ◌∙◌, w32, SFits, rules}
 use Rattle.std.specs.Fmt.{signed_decimal}
 use Rattle.text.proofs.Chained.{◌then◌, same}
 use Rattle.text.proofs.Spelled.{one_spelled, more_spelled}

@@ -1,4 +1,4 @@
-use Rattle.std.proofs.Common.{◌≡◌, ℕ, ◌≤◌, List, reverse, length, ap, ◌∙◌, subst, arith}
+use Rattle.std.proofs.Common.{ℕ, ◌≤◌, List, reverse, length, ap, ◌∙◌, subst, arith}
 use Rattle.std.specs.List.{AllByRecursion as All}
 use Rattle.std.proofs.ByRecursion.{All-weaker}
 use Rattle.chains.proofs.Facts.{told_few, told_numbers}
@@ -7,7 +7,7 @@ use Rattle.sheet.proofs.Joints.{joint_sound}
 use Rattle.judging.proofs.Told.{tells_bounded, tells_named}
 use Rattle.sections.specs.Texts.{bar_text, bolt_text, holes_text, loads_text, loads_in}
 use Rattle.text.proofs.Chained.{◌then◌, same, whole_text}
-use Rattle.writing.specs.Texts.{chain_text, page_text}
+use Rattle.writing.specs.Texts.{chain_text}
 use Rattle.writing.proofs.Room.{page_room}
 use Rattle.writing.proofs.page.write_page.Goals as goal
 
