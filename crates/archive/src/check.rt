@@ -1,5 +1,5 @@
 // A text checked: its page, or a line that says what is wrong and where.
-ghost use Rattle.std.specs.Prelude.{◌≡◌, []};
+ghost use Rattle.std.specs.Prelude.{◌≡◌};
 ghost use Rattle.text.specs.Drafts.{written};
 ghost use Rattle.archive.specs.Again.{PagesReadAgain};
 ghost use Rattle.archive.specs.Checks.{Sheets, Lays, Checks, refused_line};
@@ -30,25 +30,24 @@ fn sheet_of(text: &[u8]) -> Result<Closed, CheckFault>
     Ok(open.close())
 }
 
-// The line that says what is wrong and where, written on an empty draft.
-fn write_refused_line(draft: &mut Draft, fault: CheckFault)
-    requires { written draft.old ≡ [] }
-    ensures { written draft.new ≡ refused_line fault }
+// The line that says what is wrong and where.
+fn refusal_line(fault: CheckFault) -> Draft
+    ensures { written result ≡ refused_line fault }
 {
+    let mut draft = Draft::new();
     draft.word(b"refused");
     draft.byte(b' ');
     draft.number(fault.number() as u64);
     draft.byte(b' ');
     draft.number(fault.line() as u64);
     draft.byte(b'\n');
+    draft
 }
 
 fn write_refusal(fault: CheckFault, out: &mut [u8]) -> Result<usize, NoRoom>
     ensures { Lays (refused_line fault) out.old result out.new }
 {
-    let mut draft = Draft::new();
-    write_refused_line(&mut draft, fault);
-    match draft.copy_to(out) {
+    match refusal_line(fault).copy_to(out) {
         Some(n) => Ok(n),
         None => Err(NoRoom),
     }

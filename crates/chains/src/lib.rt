@@ -14,7 +14,7 @@ ghost use Rattle.chains.specs.Slips.{Named};
 
 use naming::write_chain;
 use parts::quantity::Micrometres;
-use search::{NO_STEP, all_steps, narrowest_end};
+use search::{all_steps, narrowest_end};
 use sheet::Joint;
 
 // Names the least chain of the joint's holes on the slip, first hole first, with a 0 behind it if a place remains, and answers its width.
@@ -25,8 +25,7 @@ pub fn least_chain(joint: Joint<'_>, slip: &mut [u8; 32]) -> Micrometres
     ensures once { Once (details joint.entry).bar.width (details joint.entry).holes }
 {
     let holes = joint.holes();
-    let mut steps = [NO_STEP; 32];
-    all_steps(joint.bar().width, holes, &mut steps);
+    let steps = all_steps(joint.bar().width, holes);
     let end = narrowest_end(&steps, holes.len());
     write_chain(&steps, end.place as u8 + 1, slip);
     end.net

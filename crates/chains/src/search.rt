@@ -68,19 +68,21 @@ fn step_to(width: u32, holes: &[Hole], steps: &[Step; 32], i: usize) -> Step
     best
 }
 
-pub(crate) const NO_STEP: Step = Step {
+const NO_STEP: Step = Step {
     net: Micrometres(0),
     from: 0,
 };
 
-// Writes the steps of all holes, each at its hole's place.
-pub(crate) fn all_steps(width: u32, holes: &[Hole], steps: &mut [Step; 32])
+// The steps of all holes.
+pub(crate) fn all_steps(width: u32, holes: &[Hole]) -> [Step; 32]
     requires { Ready width holes.now }
-    ensures { Full width holes.now steps.new (length holes.now) }
+    ensures { Full width holes.now result (length holes.now) }
 {
+    let mut steps = [NO_STEP; 32];
     for i in 0..holes.len() {
-        steps[i] = step_to(width, holes, steps, i);
+        steps[i] = step_to(width, holes, &steps, i);
     }
+    steps
 }
 
 // Where the least chain ends, by the place of its last hole, and its width.

@@ -1,8 +1,6 @@
 // The page of a closed sheet.
-ghost use Rattle.std.specs.Prelude.{◌≡◌, []};
 ghost use Rattle.sheet.specs.Details.{details};
 ghost use Rattle.sheet.specs.Kept.{closed_account};
-ghost use Rattle.text.specs.Drafts.{written};
 ghost use Rattle.writing.specs.Pages.{Drafted, Pages};
 
 use crate::fault::PageFault;
@@ -13,19 +11,19 @@ use sections::writes::{write_bar, write_bolt, write_holes, write_loads};
 use sheet::{Closed, Joint};
 use text::draft::Draft;
 
-// Judges a joint by a bank, and writes its page on an empty draft.
-fn write_page<B: Bank>(draft: &mut Draft, joint: Joint<'_>, bank: &B)
-    requires { written draft.old ≡ [] }
-    ensures { Drafted (B.rated bank.now) (details joint.entry) draft.new }
+fn drafted<B: Bank>(joint: Joint<'_>, bank: &B) -> Draft
+    ensures { Drafted (B.rated bank.now) (details joint.entry) result }
 {
     let mut slip = [0; 32];
     let judgment = judge_joint(joint, bank, &mut slip);
-    write_bar(draft, &joint.bar());
-    write_bolt(draft, &joint.bolt());
-    write_holes(draft, joint.holes());
-    write_loads(draft, joint.loads());
-    write_verdict(draft, &judgment);
-    write_chain(draft, numbers_on(&slip));
+    let mut draft = Draft::new();
+    write_bar(&mut draft, &joint.bar());
+    write_bolt(&mut draft, &joint.bolt());
+    write_holes(&mut draft, joint.holes());
+    write_loads(&mut draft, joint.loads());
+    write_verdict(&mut draft, &judgment);
+    write_chain(&mut draft, numbers_on(&slip));
+    draft
 }
 
 // Judges a closed sheet by a bank, and writes its page to the front of `out`.
@@ -36,9 +34,7 @@ pub fn page<B: Bank>(sheet: &Closed, bank: &B, out: &mut [u8]) -> Result<usize, 
         Ok(joint) => joint,
         Err(fault) => return Err(PageFault::Sheet(fault)),
     };
-    let mut draft = Draft::new();
-    write_page(&mut draft, joint, bank);
-    match draft.copy_to(out) {
+    match drafted(joint, bank).copy_to(out) {
         Some(n) => Ok(n),
         None => Err(PageFault::NoRoom),
     }

@@ -12,17 +12,17 @@ use Rattle.chains.proofs.Roundings.{rounded}
 use Rattle.chains.proofs.least_chain.Goals as goal
 use Rattle.chains.proofs.least_chain.Goals.{After-narrowest_end-end}
 
-pub all_steps-requires : goal.all_steps-requires
-all_steps-requires c =
+pub all_steps-steps-requires : goal.all_steps-steps-requires
+all_steps-steps-requires c =
     let d = details c.args.joint in
     subst (λ (b : Bar). Ready b.width c.holes-holes.result.now) (sym c.bar.ensures)
     (subst (λ (hs : List Hole). Ready d.bar.width hs) (sym c.holes-holes.ensures) (ready d (joint_sound c.args.joint)))
 
-found : (c : After-narrowest_end-end) → Found (details c.args.joint).bar.width (details c.args.joint).holes c.all_steps.new.steps c.narrowest_end-end.result.place
+found : (c : After-narrowest_end-end) → Found (details c.args.joint).bar.width (details c.args.joint).holes c.all_steps-steps.result c.narrowest_end-end.result.place
 found c =
-    subst (λ (b : Bar). Found b.width (details c.args.joint).holes c.all_steps.new.steps c.narrowest_end-end.result.place) c.bar.ensures
-    (subst (λ (hs : List Hole). Found c.bar.result.width hs c.all_steps.new.steps c.narrowest_end-end.result.place) c.holes-holes.ensures
-    (found_all c.bar.result.width c.holes-holes.result.now c.all_steps.new.steps c.all_steps.ensures c.narrowest_end-end.result.place c.narrowest_end-end.ensures.slimmest))
+    subst (λ (b : Bar). Found b.width (details c.args.joint).holes c.all_steps-steps.result c.narrowest_end-end.result.place) c.bar.ensures
+    (subst (λ (hs : List Hole). Found c.bar.result.width hs c.all_steps-steps.result c.narrowest_end-end.result.place) c.holes-holes.ensures
+    (found_all c.bar.result.width c.holes-holes.result.now c.all_steps-steps.result c.all_steps-steps.ensures c.narrowest_end-end.result.place c.narrowest_end-end.ensures.slimmest))
 
 pub write_chain-requires : goal.write_chain-requires
 write_chain-requires c =

@@ -9,7 +9,7 @@ use Rattle.sections.specs.Texts.{bar_text, bolt_text, holes_text, loads_text, lo
 use Rattle.text.proofs.Chained.{◌then◌, same, whole_text}
 use Rattle.writing.specs.Texts.{chain_text}
 use Rattle.writing.proofs.Room.{page_room}
-use Rattle.writing.proofs.page.write_page.Goals as goal
+use Rattle.writing.proofs.page.drafted.Goals as goal
 
 pub returns : goal.returns
 returns g c =
@@ -36,5 +36,5 @@ returns g c =
       judgment = judgment;
       chain = tells.chain;
       sole = tells.sole;
-      is = whole_text c.requires (page_room loads.0 d judgment (reverse tells.chain) loads.1 sound bounded few all) added;
+      is = whole_text c.new-draft.ensures (page_room loads.0 d judgment (reverse tells.chain) loads.1 sound bounded few all) added;
     }
