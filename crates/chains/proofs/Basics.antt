@@ -1,7 +1,7 @@
 -- First facts of chains.
 use Rattle.std.proofs.Common.{ℕ, zero, suc, ◌<◌, ◌≤◌, List, [], ◌∷◌, length, ⊎_elim, arith}
 use Rattle.std.proofs.lemmas.Bool.{cases_lt}
-use Rattle.std.specs.List.{AllByRecursion as All}
+use Rattle.std.specs.List.{AllByRecursion}
 use Rattle.parts.specs.declared.hole.Hole.{Hole}
 use Rattle.chains.specs.Chains.{the, Chain}
 use Rattle.chains.specs.Search.{Ready, May}
@@ -12,7 +12,7 @@ real hs m [] ch = ch
 real hs m (k ∷ ms) ch = (ch.0, ch.1)
 
 -- and so is each
-pub numbers : (hs : List Hole) (ns : List ℕ) → Chain hs ns → All (λ n. (1 ≤ n) × (n ≤ length hs)) ns
+pub numbers : (hs : List Hole) (ns : List ℕ) → Chain hs ns → AllByRecursion (λ n. (1 ≤ n) × (n ≤ length hs)) ns
 numbers hs [] ch = tt
 numbers hs (n ∷ []) ch = (ch, tt)
 numbers hs (n ∷ m ∷ ns) ch = ((ch.0, ch.1), numbers hs (m ∷ ns) ch.3)

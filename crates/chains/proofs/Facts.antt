@@ -2,7 +2,7 @@
 use Rattle.std.proofs.Common.{◌≡◌, ℕ, ◌<◌, ◌≤◌, List, [], ◌∷◌, reverse, length, get_or, ℤ, pos, negsuc, ◌≤ℤ◌, sym, ap, ◌∙◌, subst, ⊎_elim, arith}
 use mathlib.Core.List.{reverse-reverse}
 use borrow.Author.Differences.{ints}
-use Rattle.std.specs.List.{AllByRecursion as All}
+use Rattle.std.specs.List.{AllByRecursion}
 use Rattle.std.proofs.lemmas.List.{length-reverse}
 use Rattle.std.proofs.lemmas.Bool.{cases_lt}
 use Rattle.parts.specs.declared.hole.Hole.{Hole}
@@ -70,5 +70,5 @@ module _ (d : Details) (s : Sound d) where
     told_least = subst (Least d.bar.width d.holes) (sym (ap reverse n.reads ∙ reverse-reverse n.chain)) n.least
 
     -- each the number of a hole
-    pub told_numbers : All (λ m. (1 ≤ m) × (m ≤ length d.holes)) (told after)
-    told_numbers = subst (All (λ m. (1 ≤ m) × (m ≤ length d.holes))) (sym n.reads) (turned_numbers d.holes n.chain n.least.chain)
+    pub told_numbers : AllByRecursion (λ m. (1 ≤ m) × (m ≤ length d.holes)) (told after)
+    told_numbers = subst (AllByRecursion (λ m. (1 ≤ m) × (m ≤ length d.holes))) (sym n.reads) (turned_numbers d.holes n.chain n.least.chain)

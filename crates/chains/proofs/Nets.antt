@@ -1,7 +1,7 @@
 -- The list of all chains has each chain and nothing else, and the least chain's width is the net width.
 use Rattle.std.proofs.Common.{◌≡◌, ℕ, zero, suc, ◌*◌, ◌<◌, ◌≤◌, Bool, true, ltb, ◌⊎◌, List, [], ◌∷◌, ◌++◌, map, length, get_or, ℤ, pos, ◌+ℤ◌, ◌≤ℤ◌, filter, sym, refl, ◌∙◌, subst, inl, inr, ⊎_elim, arith}
 use borrow.Author.Differences.{ints}
-use Rattle.std.specs.List.{AllByRecursion as All}
+use Rattle.std.specs.List.{AllByRecursion}
 use Rattle.std.proofs.ByRecursion.{All-append, All-map, All-weaker, All-get_or, folded_min_z_bounds, folded_min_z_reached}
 use Rattle.std.proofs.lemmas.List.{get_or-map, length-map}
 use Rattle.std.proofs.lemmas.Bool.{cases_lt, lt-ltb, ltb-true, and_from, and_parts, cond_both, both_ways}
@@ -14,33 +14,33 @@ use Rattle.chains.proofs.Basics.{real, head, early, chain_few}
 use Rattle.chains.proofs.Ends.{level}
 
 -- ---- what holds of each element
-all_parts : {X : Type 0} (P : X → Type 0) (xs ys : List X) → All P (xs ++ ys) → All P xs × All P ys
+all_parts : {X : Type 0} (P : X → Type 0) (xs ys : List X) → AllByRecursion P (xs ++ ys) → AllByRecursion P xs × AllByRecursion P ys
 all_parts P [] ys a = (tt, a)
 all_parts P (x ∷ xs) ys a = let b = all_parts P xs ys a.1 in ((a.0, b.0), b.1)
 
-all_unmapped : {X Y : Type 0} (P : Y → Type 0) (f : X → Y) (xs : List X) → All P (map f xs) → All (λ x. P (f x)) xs
+all_unmapped : {X Y : Type 0} (P : Y → Type 0) (f : X → Y) (xs : List X) → AllByRecursion P (map f xs) → AllByRecursion (λ x. P (f x)) xs
 all_unmapped P f [] a = tt
 all_unmapped P f (x ∷ xs) a = (a.0, all_unmapped P f xs a.1)
 
-all_unkept : {X : Type 0} (p : X → Bool) (P : X → Type 0) (xs : List X) → All P (filter p xs) → All (λ x. p x ≡ true → P x) xs
+all_unkept : {X : Type 0} (p : X → Bool) (P : X → Type 0) (xs : List X) → AllByRecursion P (filter p xs) → AllByRecursion (λ x. p x ≡ true → P x) xs
 all_unkept p P [] a = tt
 all_unkept p P (x ∷ xs) a =
-    cond_both (p x) (x ∷ filter p xs) (filter p xs) (λ ys. All P ys → (p x ≡ true → P x) × All (λ x. p x ≡ true → P x) xs)
+    cond_both (p x) (x ∷ filter p xs) (filter p xs) (λ ys. AllByRecursion P ys → (p x ≡ true → P x) × AllByRecursion (λ x. p x ≡ true → P x) xs)
     (λ e b. ((λ t. b.0), all_unkept p P xs b.1)) (λ e b. ((λ t. absurd (both_ways (p x) e t)), all_unkept p P xs b)) a
 
-all_kept : {X : Type 0} (p : X → Bool) (P Q : X → Type 0) → ((x : X) → p x ≡ true → P x → Q x) → (xs : List X) → All P xs → All Q (filter p xs)
+all_kept : {X : Type 0} (p : X → Bool) (P Q : X → Type 0) → ((x : X) → p x ≡ true → P x → Q x) → (xs : List X) → AllByRecursion P xs → AllByRecursion Q (filter p xs)
 all_kept p P Q g [] a = tt
 all_kept p P Q g (x ∷ xs) a =
-    cond_both (p x) (x ∷ filter p xs) (filter p xs) (All Q) (λ e. (g x e a.0, all_kept p P Q g xs a.1)) (λ e. all_kept p P Q g xs a.1)
+    cond_both (p x) (x ∷ filter p xs) (filter p xs) (AllByRecursion Q) (λ e. (g x e a.0, all_kept p P Q g xs a.1)) (λ e. all_kept p P Q g xs a.1)
 
 -- ---- only chains
 abbrev Upto : ℕ → List ℕ → Type 0
-Upto n ns = All (λ m. (1 ≤ m) × (m ≤ n)) ns
+Upto n ns = AllByRecursion (λ m. (1 ≤ m) × (m ≤ n)) ns
 
 upto_more : (n : ℕ) (ns : List ℕ) → Upto n ns → Upto (suc n) ns
 upto_more n ns u = All-weaker (λ m. (1 ≤ m) × (m ≤ n)) (λ m. (1 ≤ m) × (m ≤ suc n)) (λ m h. (h.0, omega (arith, h.1))) ns u
 
-falls_upto : (n : ℕ) → All (Upto n) (falls n)
+falls_upto : (n : ℕ) → AllByRecursion (Upto n) (falls n)
 falls_upto zero = (tt, tt)
 falls_upto (suc n) =
     let f = falls_upto n in
@@ -55,7 +55,7 @@ is_chain hs (n ∷ m ∷ ns) t u =
     let p = and_parts (ltb (the hs m).y (the hs n).y) (chained hs (m ∷ ns)) t in
     (u.0.0, u.0.1, ltb-true _ _ p.0, is_chain hs (m ∷ ns) p.1 u.1)
 
-pub only_chains : (hs : List Hole) → All (Chain hs) (all_chains hs)
+pub only_chains : (hs : List Hole) → AllByRecursion (Chain hs) (all_chains hs)
 only_chains hs = all_kept (chained hs) (Upto (length hs)) (Chain hs) (is_chain hs) (falls (length hs)) (falls_upto (length hs))
 
 -- ---- every chain
@@ -74,7 +74,7 @@ part hs n [] ch = tt
 part hs n (m ∷ ns) ch = ch.3
 
 module _ (bar : ℕ) (hs : List Hole) (ok : Ready bar hs) where
-  in_falls : (P : List ℕ → Type 0) (n : ℕ) → All P (falls n) → (ns : List ℕ) → Part hs ns → head ns ≤ n → P ns
+  in_falls : (P : List ℕ → Type 0) (n : ℕ) → AllByRecursion P (falls n) → (ns : List ℕ) → Part hs ns → head ns ≤ n → P ns
   in_falls P zero a [] ch le = a.0
   in_falls P zero a (m ∷ ns) ch le = absurd (omega (arith, real hs m ns ch))
   in_falls P (suc n) a [] ch le = in_falls P n (all_parts P (falls n) _ a).0 [] ch (omega arith)
@@ -90,7 +90,7 @@ module _ (bar : ℕ) (hs : List Hole) (ok : Ready bar hs) where
       (cases_lt m (suc n))
 
   -- what holds of all chains in the list holds of every chain
-  pub every_chain : (P : List ℕ → Type 0) → All P (all_chains hs) → (ns : List ℕ) → Chain hs ns → P ns
+  pub every_chain : (P : List ℕ → Type 0) → AllByRecursion P (all_chains hs) → (ns : List ℕ) → Chain hs ns → P ns
   every_chain P a [] ch = absurd ch
   every_chain P a (n ∷ ns) ch =
       in_falls (λ ms. chained hs ms ≡ true → P ms) (length hs) (all_unkept (chained hs) P (falls (length hs)) a) (n ∷ ns) ch

@@ -1,7 +1,7 @@
 -- The chain that steps lead through, and how it comes onto a slip.
 use Rattle.std.proofs.Common.{◌≡◌, ℕ, zero, suc, ◌+◌, ◌-◌, ◌<◌, ◌≤◌, List, [], ◌∷◌, ◌++◌, reverse, length, get_or, drop, set, sym, refl, ap, ◌∙◌, subst, arith}
 use mathlib.Core.List.{reverse_aux, reverse_aux-eq}
-use Rattle.std.specs.List.{AllByRecursion as All}
+use Rattle.std.specs.List.{AllByRecursion}
 use Rattle.std.proofs.lemmas.List.{drop-set, length-reverse}
 use Rattle.parts.specs.declared.hole.Hole.{Hole}
 use Rattle.chains.specs.declared.search.Step.{Step}
@@ -101,19 +101,19 @@ filed_all steps end at place old start slip ns e w clear fits f =
     whole ∙ v.3 ∙ reverse_aux-eq ns _ ∙ ap (λ (s : List ℕ). reverse ns ++ drop (length ns) s) clear ∙ ap (λ (k : ℕ). reverse ns ++ drop k (set old k 0)) (sym rev) ∙ sym (filed_is (reverse ns) old (omega (arith, rev)))
 
 -- ---- what a slip tells
-told_filed : (most : ℕ) (ns slip : List ℕ) → All (λ n. (1 ≤ n) × (n ≤ most)) ns → length ns ≤ length slip → told (filed ns slip) ≡ ns
+told_filed : (most : ℕ) (ns slip : List ℕ) → AllByRecursion (λ n. (1 ≤ n) × (n ≤ most)) ns → length ns ≤ length slip → told (filed ns slip) ≡ ns
 told_filed most [] [] a h = refl
 told_filed most [] (s ∷ slip) a h = refl
 told_filed most (n ∷ ns) [] a h = absurd (omega arith)
 told_filed most (zero ∷ ns) (s ∷ slip) a h = absurd (omega (arith, a.0))
 told_filed most (suc n ∷ ns) (s ∷ slip) a h = ap (λ (l : List ℕ). suc n ∷ l) (told_filed most ns slip a.1 (omega arith))
 
-all_turned : (P : ℕ → Type 0) (ns ms : List ℕ) → All P ns → All P ms → All P (reverse_aux ns ms)
+all_turned : (P : ℕ → Type 0) (ns ms : List ℕ) → AllByRecursion P ns → AllByRecursion P ms → AllByRecursion P (reverse_aux ns ms)
 all_turned P [] ms a b = b
 all_turned P (n ∷ ns) ms a b = all_turned P ns (n ∷ ms) a.1 (a.0, b)
 
 -- the numbers of a chain, first hole first, are numbers of holes too
-pub turned_numbers : (hs : List Hole) (ns : List ℕ) → Chain hs ns → All (λ n. (1 ≤ n) × (n ≤ length hs)) (reverse ns)
+pub turned_numbers : (hs : List Hole) (ns : List ℕ) → Chain hs ns → AllByRecursion (λ n. (1 ≤ n) × (n ≤ length hs)) (reverse ns)
 turned_numbers hs ns ch = all_turned (λ n. (1 ≤ n) × (n ≤ length hs)) ns [] (numbers hs ns ch) tt
 
 pub slip_reads : (hs : List Hole) (ns old new : List ℕ) → Chain hs ns → length ns ≤ length old → new ≡ filed (reverse ns) old → told new ≡ reverse ns

@@ -1,7 +1,7 @@
 -- The figures, worked out.
 use Rattle.std.proofs.Common.{◌≡◌, ℕ, zero, suc, ◌<◌, ◌≤◌, List, [], ◌∷◌, length, get_or, pos, negsuc, ◌≤ℤ◌, refl, inl, inr, ⊎_elim, arith}
 use lib.Signed.{le_z_yes}
-use Rattle.std.specs.List.{AllByRecursion as All}
+use Rattle.std.specs.List.{AllByRecursion}
 use Rattle.std.proofs.ByRecursion.{All-get_or}
 use Rattle.std.proofs.lemmas.Int.{ints}
 use Rattle.std.proofs.lemmas.Bool.{cases_lt}
@@ -62,7 +62,7 @@ reversed : Whenever (loads (pos 10000) (pos 0) (pos 20000)) (λ j. j.kind ≡ Re
 reversed states bar holes j chain law so = so.reverses.1 (17, (omega arith, omega arith), omega (arith, ints, windy))
 
 -- without loads every row is 0
-all_unloaded : All (λ r. r.0 ≡ pos 0) (rows_of (loads (pos 0) (pos 0) (pos 0)))
+all_unloaded : AllByRecursion (λ r. r.0 ≡ pos 0) (rows_of (loads (pos 0) (pos 0) (pos 0)))
 unfolding rows_of
 all_unloaded = (refl, (refl, (refl, (refl, (refl, (refl, (refl, (refl, (refl, (refl, (refl, (refl, (refl, (refl, (refl, (refl, (refl, (refl, (refl, tt)))))))))))))))))))
 

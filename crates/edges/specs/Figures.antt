@@ -1,6 +1,6 @@
 -- The worked figures at the edges, as one table.
 use Rattle.std.specs.Prelude.{◌≡◌, ℕ, List, [], ◌∷◌, map, ℤ, pos, negsuc, Some, None}
-use Rattle.std.specs.List.{AllByRecursion as All}
+use Rattle.std.specs.List.{AllByRecursion}
 use Rattle.parts.specs.declared.bar.Bar.{Bar}
 use Rattle.parts.specs.declared.bolt.Bolt.{Bolt}
 use Rattle.parts.specs.declared.bolt.Size.TheVariants.{M20}
@@ -57,7 +57,7 @@ bearing_lengths near far = map (lengths 20) (lines (drilled_at near 100 ∷ dril
 abbrev pub Whenever : List ℤ → (Judgment → Type 0) → Type 0
 Whenever ns P =
     (states : List Rated) (bar : ℕ) (holes : List Hole) (j : Judgment) (chain : List ℕ)
-    → All Lawful states → Judged (rows_of ns) states bar holes j chain → P j
+    → AllByRecursion Lawful states → Judged (rows_of ns) states bar holes j chain → P j
 
 pub record Figures : Type 0 where
   -- the three-hole bar

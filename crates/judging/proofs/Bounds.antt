@@ -1,6 +1,6 @@
 -- How far a row can be from zero: no row has more than 36 tenths of its loads together.
 use Rattle.std.proofs.Common.{ℕ, ◌<◌, List, get_or, ℤ, pos, negsuc, ◌≤ℤ◌, sym, ap, ◌∙◌, subst, zero-add, arith}
-use Rattle.std.specs.List.{range_with_len, AllByRecursion as All}
+use Rattle.std.specs.List.{range_with_len, AllByRecursion}
 use Rattle.std.proofs.lemmas.List.FromFn.{get_or-range_with_len}
 use Rattle.std.proofs.ByRecursion.{All-get_or}
 use Rattle.std.proofs.lemmas.List.{get_or-map}
@@ -14,7 +14,7 @@ abbrev pub Bearing : ℤ → Type 0
 Bearing z = (negsuc 359999999 ≤ℤ z) × (z ≤ℤ pos 360000000)
 
 module _ (xs : List ℤ) (ok : (k : ℕ) → k < 7 → (negsuc 9999999 ≤ℤ get_or xs k (pos 0)) × (get_or xs k (pos 0) ≤ℤ pos 10000000)) where
-  each_bearing : All (λ i. Bearing (get_or (combined xs) i (pos 0))) (range_with_len 0 19)
+  each_bearing : AllByRecursion (λ i. Bearing (get_or (combined xs) i (pos 0))) (range_with_len 0 19)
   each_bearing =
       let d = ok 0 (omega arith) in
       let l = ok 1 (omega arith) in

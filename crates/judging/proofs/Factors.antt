@@ -2,7 +2,7 @@
 use Rattle.std.proofs.Common.{◌≡◌, ℕ, zero, suc, ◌+◌, ◌*◌, ◌<◌, ◌≤◌, Bool, true, false, ◌&&◌, T, List, [], ◌∷◌, length, get_or, ℤ, pos, negsuc, ◌+ℤ◌, ◌*ℤ◌, ◌≤ℤ◌, sym, refl, ap, ◌∙◌, subst, mul-le-mul_right, zero-add, add-one, arith, w32, w64, SFits, to_z, of_z}
 use borrow.Author.Differences.{up, down, product_is}
 use lib.Signed.{le_z}
-use Rattle.std.specs.List.{AllByRecursion as All, range_with_len}
+use Rattle.std.specs.List.{AllByRecursion, range_with_len}
 use Rattle.std.proofs.ByRecursion.{All-get_or}
 use Rattle.std.proofs.lemmas.Int.{ints, to_z-of_z}
 use Rattle.std.proofs.lemmas.List.FromFn.{get_or-range_with_len, get_or-map-range_with_len, length-map-range_with_len}
@@ -27,7 +27,7 @@ and_T : (a b : Bool) → T (a && b) → T a × T b
 and_T true b t = (tt, t)
 and_T false b t = absurd t
 
-smalls : (zs : List ℤ) → T (all_small zs) → All Small zs
+smalls : (zs : List ℤ) → T (all_small zs) → AllByRecursion Small zs
 smalls [] t = tt
 smalls (z ∷ zs) t =
     let p = and_T (le_z (negsuc 15) z) (le_z z (pos 16) && all_small zs) t in
@@ -67,7 +67,7 @@ partial xs i (suc k) = partial xs i k +ℤ factor_of (7 * i + k) *ℤ get_or xs 
 abbrev pub RowIs : List ℤ → ℕ → Type 0
 RowIs xs i = partial xs i 7 ≡ get_or (combined xs) i (pos 0)
 
-each_row : (xs : List ℤ) → All (RowIs xs) (range_with_len 0 19)
+each_row : (xs : List ℤ) → AllByRecursion (RowIs xs) (range_with_len 0 19)
 each_row xs =
     (omega (arith, ints), (omega (arith, ints), (omega (arith, ints), (omega (arith, ints), (omega (arith, ints), (omega (arith, ints), (omega (arith, ints), (omega (arith, ints), (omega (arith, ints), (omega (arith, ints), (omega (arith, ints), (omega (arith, ints), (omega (arith, ints), (omega (arith, ints), (omega (arith, ints), (omega (arith, ints), (omega (arith, ints), (omega (arith, ints), (omega (arith, ints), tt)))))))))))))))))))
 

@@ -1,6 +1,6 @@
 -- What a judgment tells, for those who build on it.
 use Rattle.std.proofs.Common.{◌≡◌, ℕ, ◌≤◌, List, pos, negsuc, ◌≤ℤ◌, sym, ◌∙◌, subst, arith}
-use Rattle.std.specs.List.{AllByRecursion as All}
+use Rattle.std.specs.List.{AllByRecursion}
 use Rattle.std.proofs.ByRecursion.{All-get_or}
 use Rattle.std.proofs.lemmas.Int.{ints}
 use Rattle.parts.specs.declared.hole.Hole.{Hole}
@@ -22,7 +22,7 @@ module _ {rows : List Decinewtons} {states : List Rated} {bar : ℕ} {holes : Li
   named_least = record { chain = so.chain_stands; narrowest = so.none_narrower; first = so.chain_first }
 
   -- what holds of every limit state in the bank holds of the one named
-  pub named_lawful : All Lawful states → Lawful record { number = j.state; strength = j.strength }
+  pub named_lawful : AllByRecursion Lawful states → Lawful record { number = j.state; strength = j.strength }
   named_lawful all =
       let e : state_at states so.place ≡ record { number = j.state; strength = j.strength } =
       λ t. record { number = so.state_told t; strength = record { 0 = so.strength_told t } } in
@@ -52,7 +52,7 @@ module _ {states : Details → List Rated} {d : Details} {before after : List �
     pub tells_net : j.net_width.0 ≡ net_width d.bar.width d.holes
     tells_net = tells.sole.judged.width_told ∙ net_is d.bar.width d.holes (ready d sound) tells.chain (named_least tells.sole.judged)
 
-    pub tells_bounded : All Lawful (states d) → Bounded j
+    pub tells_bounded : AllByRecursion Lawful (states d) → Bounded j
     tells_bounded all =
         let so = tells.sole.judged in
         let law = named_lawful so all in

@@ -1,6 +1,6 @@
 -- The first of the weakest.
 use Rattle.std.proofs.Common.{◌≡◌, ℕ, List, [], ◌∷◌, ◌++◌, pos, ◌≤ℤ◌, ◌<ℤ◌, sym, subst, arith}
-use Rattle.std.specs.List.{AllByRecursion as All}
+use Rattle.std.specs.List.{AllByRecursion}
 use Rattle.std.proofs.ByRecursion.{All-weaker}
 use Rattle.std.proofs.lemmas.Int.{ints, by_lt_z}
 use Rattle.limits.specs.declared.rated.Rated.{Rated}
@@ -26,7 +26,7 @@ second_weaker u v less = (_, second_wins by_strength u.1 v.1 less)
 pub first_as_weak : {xs ys : List Rated} {p q : Rated} → FirstWeakest xs p → FirstWeakest ys q → (strength_of q <ℤ strength_of p → ⊥) → FirstWeakest (xs ++ ys) p
 first_as_weak u v less = (_, first_wins by_strength u.1 v.1 less)
 
-pub none_weaker : {xs : List Rated} {r : Rated} → FirstWeakest xs r → All (λ x. strength_of r ≤ℤ strength_of x) xs
+pub none_weaker : {xs : List Rated} {r : Rated} → FirstWeakest xs r → AllByRecursion (λ x. strength_of r ≤ℤ strength_of x) xs
 none_weaker {xs} {r} w = All-weaker (λ x. Weaker x r → ⊥) (λ x. strength_of r ≤ℤ strength_of x) (λ x h. grind (arith, ints)) xs (none_beats by_strength w.1)
 
 pub weaker_of : {xs ys : List Rated} {p q : Rated} (r : Rated) → FirstWeakest xs p → FirstWeakest ys q

@@ -1,6 +1,6 @@
 -- Lines of holes, and the lengths on which a line's bolts bear, in tenths of a millimetre.
 use Rattle.std.specs.Prelude.{◌≡◌, ℕ, ◌-◌, ◌*◌, ◌<◌, ◌≤◌, min, Bool, true, cond, ◌&&◌, List, [], ◌∷◌, map, length, replicate, sum_by, sum, ◌==◌, nat_le}
-use Rattle.std.specs.List.{flat_map, AllByRecursion as All}
+use Rattle.std.specs.List.{flat_map, AllByRecursion}
 use Rattle.parts.specs.declared.hole.Hole.{Hole}
 use Rattle.limits.specs.declared.line.HoleLine.{HoleLine}
 
@@ -71,5 +71,5 @@ pub record Next (d : ℕ) (a b : Hole) : Type 0 where
 -- the lines put together are the holes; along a line y is equal and x rises; from line to line y rises
 pub record Lined (d : ℕ) (hs : List Hole) (ls : List Line) : Type 0 where
   pub together : flat_map members ls ≡ hs
-  pub along : All (λ l. Rising (Next d) (members l)) ls
+  pub along : AllByRecursion (λ l. Rising (Next d) (members l)) ls
   pub across : Rising (λ k l. k.first.y < l.first.y) ls

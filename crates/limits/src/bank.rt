@@ -1,6 +1,6 @@
 // A bank of limit states: one, or two banks put together, first and second.
 ghost use Rattle.std.specs.Prelude.{◌≡◌, List, [], ◌∷◌, ◌++◌, ◌≤ℤ◌, ◌<ℤ◌};
-ghost use Rattle.std.specs.List.{AllByRecursion as All};
+ghost use Rattle.std.specs.List.{AllByRecursion};
 ghost use Rattle.sheet.specs.Details.{Details, Sound, details};
 ghost use Rattle.limits.specs.Rating.{rating, strength_of, FirstWeakest, Lawful};
 ghost use Rattle.limits.specs.declared.rated.Rated.{Rated};
@@ -19,7 +19,7 @@ pub trait Bank {
     fn weakest(&self, joint: Joint<'_>) -> Rated
         ensures { FirstWeakest (rated self.now (details joint.entry)) result };
 
-    ghost lawful: { (x : Self) (d : Details) → Sound d → All Lawful (rated x d) };
+    ghost lawful: { (x : Self) (d : Details) → Sound d → AllByRecursion Lawful (rated x d) };
 }
 
 #[derive(Drop)]

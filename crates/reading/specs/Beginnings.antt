@@ -1,6 +1,6 @@
 -- The good beginnings of a page: what stands on the lines that are read so far.
 use Rattle.std.specs.Prelude.{◌≡◌, ℕ, ◌<◌, ◌≤◌, true, List, [], ◌∷◌, ◌++◌, map, reverse, length, replicate, ℤ, pos, Some, None, codes, decimal, ◌≢◌, slice_set}
-use Rattle.std.specs.List.{flat_map, AllByRecursion as All}
+use Rattle.std.specs.List.{flat_map, AllByRecursion}
 use Rattle.parts.specs.declared.bar.Bar.{Bar}
 use Rattle.parts.specs.declared.bolt.Bolt.{Bolt}
 use Rattle.parts.specs.declared.hole.Hole.{Hole}
@@ -72,7 +72,7 @@ account_of (loading b t hs ps) = record { bar = Some b; bolt = Some t; holes = n
 
 -- a load's letter has not stood before
 abbrev pub Fresh : LoadKind → List Load → Type 0
-Fresh k ps = All (λ p. p.0 ≢ k) ps
+Fresh k ps = AllByRecursion (λ p. p.0 ≢ k) ps
 
 -- each hole could be put on the account before it, and there were not yet n
 abbrev pub HolesGood : Bar → Bolt → ℕ → List Hole → Type 0

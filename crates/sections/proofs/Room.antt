@@ -1,7 +1,7 @@
 -- How long the first four sections can be.
 use Rattle.std.proofs.Common.{◌≡◌, ℕ, ◌+◌, ◌^◌, ◌<◌, ◌≤◌, List, [], ◌∷◌, ◌++◌, length, get_or, ℤ, pos, negsuc, ◌≤ℤ◌, codes, decimal, arith, length-append}
 use lib.Signed.{mag}
-use Rattle.std.specs.List.{flat_map, AllByRecursion as All}
+use Rattle.std.specs.List.{flat_map, AllByRecursion}
 use Rattle.std.specs.Fmt.{signed_decimal}
 use Rattle.std.proofs.ByRecursion.{All-from_get_or, All-map}
 use Rattle.std.proofs.lemmas.List.{length-map}
@@ -109,7 +109,7 @@ module _ (d : Details) (sound : Sound d) where
   holes_room =
       let few = sound.few in
       let wide = sound.width in
-      let each : All (λ h. length (hole_line h) ≤ 63) d.holes =
+      let each : AllByRecursion (λ h. length (hole_line h) ≤ 63) d.holes =
       All-from_get_or (λ h. length (hole_line h) ≤ 63) d.holes no_hole
       (λ k lt.
       let p = sound.placed k lt in
@@ -125,7 +125,7 @@ module _ (d : Details) (sound : Sound d) where
   module _ (order : List LoadKind) (ordered : LoadOrder order) where
     loads_room : length (loads_text (loads_in order d.loads)) ≤ 188
     loads_room =
-        let each : All (λ p. length (load_line p) ≤ 23) (loads_in order d.loads) =
+        let each : AllByRecursion (λ p. length (load_line p) ≤ 23) (loads_in order d.loads) =
         All-map (λ p. length (load_line p) ≤ 23) (load_at d.loads) order
         (All-from_get_or (λ k. length (load_line (load_at d.loads k)) ≤ 23) order Dead
         (λ i lt.

@@ -1,6 +1,6 @@
 -- The account: what a sheet is worth to the rules, fed each call with its arguments and nothing else.
 use Rattle.std.specs.Prelude.{◌≡◌, Bool, true, false, cond, List, [], ◌∷◌, ◌++◌, replicate, ℤ, pos, Some, None, Ok, Err, Option, Result}
-use Rattle.std.specs.List.{AllByRecursion as All}
+use Rattle.std.specs.List.{AllByRecursion}
 use Rattle.parts.specs.declared.hole.Hole.{Hole}
 use Rattle.parts.specs.declared.bar.Bar.{Bar}
 use Rattle.parts.specs.declared.bolt.Bolt.{Bolt}
@@ -28,8 +28,8 @@ first (l ∷ ls) = cond l.1 (Some l.0) (first ls)
 
 -- what `first` gives, in words: a line whose condition holds while none before it does; or no condition holds
 abbrev pub Foremost : List Line → Option Fault → Type 0
-Foremost ls None = All (λ l. l.1 ≡ false) ls
-Foremost ls (Some f) = (before : List Line) × (rest : List Line) × (ls ≡ before ++ (f, true) ∷ rest) × All (λ l. l.1 ≡ false) before
+Foremost ls None = AllByRecursion (λ l. l.1 ≡ false) ls
+Foremost ls (Some f) = (before : List Line) × (rest : List Line) × (ls ≡ before ++ (f, true) ∷ rest) × AllByRecursion (λ l. l.1 ≡ false) before
 
 abbrev pub FirstTells : Type 0
 FirstTells = (ls : List Line) → Foremost ls (first ls)

@@ -1,7 +1,7 @@
 -- How long what is written can be.
 use Rattle.std.proofs.Common.{◌≡◌, ℕ, ◌+◌, ◌*◌, ◌/◌, ◌%◌, ◌^◌, ◌<◌, ◌≤◌, List, [], ◌∷◌, ◌++◌, length, ℤ, decimal, ap, ◌∙◌, arith, length-append}
 use lib.Signed.{mag}
-use Rattle.std.specs.List.{flat_map, AllByRecursion as All}
+use Rattle.std.specs.List.{flat_map, AllByRecursion}
 use Rattle.std.specs.Fmt.{signed_decimal}
 use Rattle.std.proofs.lemmas.Fmt.{decimal_digit, decimal_step, length-decimal-le, length_signed_le}
 use Rattle.std.proofs.lemmas.List.{length_push}
@@ -52,6 +52,6 @@ unfolding header
 header_long n name h = omega (arith, two_figures n h, line_more (decimal n) name [], line_one name)
 
 -- lines of at most m bytes each
-pub joined_long : {X : Type 0} (f : X → List ℕ) (m : ℕ) (xs : List X) → All (λ x. length (f x) ≤ m) xs → length (flat_map f xs) ≤ m * length xs
+pub joined_long : {X : Type 0} (f : X → List ℕ) (m : ℕ) (xs : List X) → AllByRecursion (λ x. length (f x) ≤ m) xs → length (flat_map f xs) ≤ m * length xs
 joined_long f m [] h = omega arith
 joined_long f m (x ∷ xs) h = omega (arith, length-append (f x) (flat_map f xs), joined_long f m xs h.1, h.0)

@@ -1,7 +1,7 @@
 -- A page has room on a draft.
 use Rattle.std.proofs.Common.{◌≡◌, ℕ, ◌+◌, ◌^◌, ◌<◌, ◌≤◌, List, [], ◌∷◌, ◌++◌, length, ℤ, pos, negsuc, ◌≤ℤ◌, codes, decimal, arith, length-append}
 use lib.Signed.{mag}
-use Rattle.std.specs.List.{flat_map, AllByRecursion as All}
+use Rattle.std.specs.List.{flat_map, AllByRecursion}
 use Rattle.std.specs.Fmt.{signed_decimal}
 use Rattle.std.proofs.ByRecursion.{All-weaker}
 use Rattle.std.proofs.lemmas.Int.{ints}
@@ -57,9 +57,9 @@ verdict_room j b =
       signed_long j.least.0 (between j.least.0 (omega (arith, ints, b.least)) (omega (arith, ints, b.least))),
     )
 
-chain_room : (ns : List ℕ) → length ns ≤ 32 → All (λ n. n ≤ 32) ns → length (chain_text ns) ≤ 699
+chain_room : (ns : List ℕ) → length ns ≤ 32 → AllByRecursion (λ n. n ≤ 32) ns → length (chain_text ns) ≤ 699
 chain_room ns few all =
-    let each : All (λ n. length (chain_line n) ≤ 21) ns =
+    let each : AllByRecursion (λ n. length (chain_line n) ≤ 21) ns =
     All-weaker (λ n. n ≤ 32) (λ n. length (chain_line n) ≤ 21) (λ n h. omega (arith, line_one (decimal n), decimal_long n (omega arith))) ns all in
     omega (
       arith,
@@ -68,7 +68,7 @@ chain_room ns few all =
       joined_long chain_line 21 ns each,
     )
 
-pub page_room : (order : List LoadKind) (d : Details) (j : Judgment) (ns : List ℕ) → LoadOrder order → Sound d → Bounded j → length ns ≤ 32 → All (λ n. n ≤ 32) ns → length (page_text order d j ns) ≤ 4096
+pub page_room : (order : List LoadKind) (d : Details) (j : Judgment) (ns : List ℕ) → LoadOrder order → Sound d → Bounded j → length ns ≤ 32 → AllByRecursion (λ n. n ≤ 32) ns → length (page_text order d j ns) ≤ 4096
 page_room order d j ns o s b few all =
     omega (
       arith,

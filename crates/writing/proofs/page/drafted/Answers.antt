@@ -1,5 +1,5 @@
 use Rattle.std.proofs.Common.{ℕ, ◌≤◌, List, reverse, length, ap, ◌∙◌, subst, arith}
-use Rattle.std.specs.List.{AllByRecursion as All}
+use Rattle.std.specs.List.{AllByRecursion}
 use Rattle.std.proofs.ByRecursion.{All-weaker}
 use Rattle.chains.proofs.Facts.{told_few, told_numbers}
 use Rattle.sheet.specs.Details.{details}
@@ -29,7 +29,7 @@ returns g c =
     let few = subst (λ (ns : List ℕ). length ns ≤ 32) tells.reads (told_few d sound _ _ _ named) in
     let all =
     All-weaker (λ m. (1 ≤ m) × (m ≤ length d.holes)) (λ m. m ≤ 32) (λ m h. omega (arith, h, sound.few)) _
-    (subst (All (λ m. (1 ≤ m) × (m ≤ length d.holes))) tells.reads (told_numbers d sound _ _ _ named)) in
+    (subst (AllByRecursion (λ m. (1 ≤ m) × (m ≤ length d.holes))) tells.reads (told_numbers d sound _ _ _ named)) in
     record {
       order = loads.0;
       ordered = loads.1;
