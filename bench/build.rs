@@ -1,4 +1,4 @@
-//! Links the proved library, which `rt staticlib bridge` writes.
+//! Links the proved library, which `bench/compare` puts there.
 
 use std::path::Path;
 
