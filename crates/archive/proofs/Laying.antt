@@ -5,7 +5,7 @@ use Rattle.sheet.specs.Calls.{joint_fault}
 use Rattle.limits.specs.Norm.{norm_ratings}
 use Rattle.reading.specs.Beginnings.{loading, written}
 use Rattle.reading.specs.Reads.{Accepted}
-use Rattle.text.specs.Capacity.{capacity}
+use Rattle.text.proofs.Capacity.{capacity}
 use Rattle.text.proofs.Lengths.{decimal_long, line_one, line_more}
 use Rattle.writing.specs.Pages.{Pages}
 use Rattle.writing.specs.declared.fault.PageFault.{PageFault}

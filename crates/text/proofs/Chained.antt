@@ -1,7 +1,7 @@
 -- One text after another on a draft.
 use Rattle.std.proofs.Common.{◌≡◌, ℕ, ◌≤◌, List, [], ◌++◌, length, take, sym, ap, ◌∙◌, subst, arith}
 use Rattle.std.proofs.lemmas.List.{append-nil, take_all, length-take}
-use Rattle.text.specs.Capacity.{capacity}
+use Rattle.text.proofs.Capacity.{capacity}
 use Rattle.text.specs.Drafts.{written, Adds}
 use Rattle.text.specs.declared.draft.Draft.{Draft}
 use Rattle.text.proofs.Grown.{grown}

@@ -1,3 +1,4 @@
+pub mod Capacity
 pub mod Chained
 pub mod Clean
 pub mod Cuts

@@ -1,4 +1,3 @@
-pub mod Capacity
 pub mod Cursors
 pub mod Drafts
 pub mod Figures

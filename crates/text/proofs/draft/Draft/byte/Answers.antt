@@ -1,6 +1,6 @@
 use Rattle.std.proofs.Common.{[], ◌∷◌, sym, ◌∙◌, arith}
 use Rattle.std.proofs.lemmas.List.{take_more_set, take_all, take_at, length-take-le, length_push}
-use Rattle.text.specs.Capacity.{capacity}
+use Rattle.text.proofs.Capacity.{capacity}
 use Rattle.text.specs.Drafts.{written}
 use Rattle.text.proofs.draft.Draft.byte.Goals as goal
 

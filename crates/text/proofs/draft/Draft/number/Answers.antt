@@ -1,7 +1,7 @@
 use Rattle.std.proofs.Common.{◌+◌, ◌++◌, length, decimal, sym, ap, ◌∙◌, arith, length-append}
 use Rattle.std.proofs.lemmas.List.{length-take-le, take_all}
 use Rattle.std.proofs.lemmas.Slice.{take-put_mid}
-use Rattle.text.specs.Capacity.{capacity}
+use Rattle.text.proofs.Capacity.{capacity}
 use Rattle.text.specs.Drafts.{written}
 use Rattle.text.proofs.Chained.{same}
 use Rattle.text.proofs.Lengths.{decimal_long}

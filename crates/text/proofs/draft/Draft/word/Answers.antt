@@ -1,7 +1,7 @@
 use Rattle.std.proofs.Common.{◌≡◌, ◌+◌, ◌-◌, ◌++◌, length, take, ap, ◌∙◌, arith}
 use Rattle.std.proofs.lemmas.List.{length-take-le}
 use Rattle.std.proofs.lemmas.Slice.{take-put_mid}
-use Rattle.text.specs.Capacity.{capacity}
+use Rattle.text.proofs.Capacity.{capacity}
 use Rattle.text.specs.Drafts.{written}
 use Rattle.text.proofs.Grown.{fitted}
 use Rattle.text.proofs.draft.Draft.word.Goals as goal
