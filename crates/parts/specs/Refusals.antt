@@ -1,5 +1,5 @@
--- The number of each refusal of a sheet.
-use Rattle.std.specs.Prelude.{ℕ}
+-- The number of each refusal of a sheet, and how it is told.
+use Rattle.std.specs.Prelude.{ℕ, List, [], ◌++◌, codes, decimal}
 use Rattle.parts.specs.declared.fault.Fault.{Fault}
 use Rattle.parts.specs.declared.fault.Fault.TheVariants.{OutOfRange, UnknownSteel, UnknownSize, HolesStand, NoBarOrBolt, Full, DiameterOutside, CentreOutside, TooClose, NoHoleThere, UnknownLoad, LoadOutOfRange, NoHoles}
 
@@ -17,3 +17,11 @@ refusal_number NoHoleThere = 9
 refusal_number UnknownLoad = 10
 refusal_number LoadOutOfRange = 11
 refusal_number NoHoles = 12
+
+-- what a refusal tells beside its number
+abbrev pub told_hole : Fault → List ℕ
+told_hole (TooClose hole) = codes ", too close to hole " ++ decimal hole
+told_hole fault = []
+
+abbrev pub refusal_text : Fault → List ℕ
+refusal_text fault = codes "refused " ++ decimal (refusal_number fault) ++ told_hole fault

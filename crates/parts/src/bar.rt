@@ -6,7 +6,7 @@ ghost use Rattle.parts.specs.Holes.{placed};
 use crate::hole::Hole;
 use crate::steel::Steel;
 
-#[derive(Clone, Copy)]
+#[derive(Clone, Copy, Debug, PartialEq, Eq)]
 pub struct Bar {
     pub width: u32,
     pub thickness: u32,
@@ -18,16 +18,17 @@ impl Bar {
     pub fn in_range(&self) -> bool
         ensures { result ≡ bar_ranges self.now }
     {
-        (50 <= self.width && self.width <= 1000)
-            && (3 <= self.thickness && self.thickness <= 50)
-            && (24 <= self.edge && self.edge <= 200)
+        (50..=1000).contains(&self.width)
+            && (3..=50).contains(&self.thickness)
+            && (24..=200).contains(&self.edge)
     }
 
     // Whether a hole's centre keeps the edge distance, and 1,200 mm from the bolted end at most.
     pub fn has_place_for(&self, hole: &Hole) -> bool
         ensures { result ≡ placed self.now hole.now }
     {
-        (self.edge <= hole.x && hole.x <= 1200)
-            && (self.edge <= hole.y && hole.y <= self.width && self.edge <= self.width - hole.y)
+        (self.edge..=1200).contains(&hole.x)
+            && (self.edge..=self.width).contains(&hole.y)
+            && self.edge <= self.width - hole.y
     }
 }

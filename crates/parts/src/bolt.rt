@@ -1,14 +1,16 @@
 // The bolts of one end: size, nominal shear stress and shear planes.
-ghost use Rattle.std.specs.Prelude.{◌≡◌, ◌≤◌, length, MatchOption, ◌≢◌};
+ghost use Rattle.std.specs.Prelude.{◌≡◌, ◌≤◌, ◌≢◌, length, ok_or, MatchResult};
 ghost use Rattle.parts.specs.Sizes.{diameter_of, area_of, size_number, size_of, size_name};
 ghost use Rattle.parts.specs.Ranges.{bolt_ranges};
 ghost use Rattle.parts.specs.Holes.{drilled};
 ghost use Rattle.parts.specs.declared.bolt.Size.{Size as AnySize};
+ghost use Rattle.parts.specs.declared.fault.Fault.TheVariants.{UnknownSize};
 
+use crate::fault::Fault;
 use crate::hole::Hole;
 use crate::quantity::Megapascals;
 
-#[derive(Clone, Copy)]
+#[derive(Clone, Copy, Debug, PartialEq, Eq)]
 pub enum Size {
     M16,
     M20,
@@ -16,45 +18,75 @@ pub enum Size {
     M24,
 }
 
-// In millimetres.
-const DIAMETER: [u32; 4] = [16, 20, 22, 24];
+// A bolt's round section: its diameter in millimetres, and its area in square millimetres.
+struct Section {
+    diameter: u32,
+    area: u32,
+}
 
-// In square millimetres.
-const AREA: [u32; 4] = [201, 314, 380, 452];
+// By the number of the size less 1.
+const SECTIONS: [Section; 4] = [
+    Section {
+        diameter: 16,
+        area: 201,
+    },
+    Section {
+        diameter: 20,
+        area: 314,
+    },
+    Section {
+        diameter: 22,
+        area: 380,
+    },
+    Section {
+        diameter: 24,
+        area: 452,
+    },
+];
+
+// The size of a number from 1 to 4.
+impl TryFrom<u32> for Size {
+    type Error = Fault;
+
+    ghost try_from_gives = { λ number r. r ≡ ok_or (size_of number) UnknownSize };
+
+    fn try_from(number: u32) -> Result<Size, Fault> {
+        match number {
+            1 => Ok(Size::M16),
+            2 => Ok(Size::M20),
+            3 => Ok(Size::M22),
+            4 => Ok(Size::M24),
+            _ => Err(Fault::UnknownSize),
+        }
+    }
+}
+
+impl From<Size> for u32 {
+    ghost from_gives = { λ size number. number ≡ size_number size };
+
+    fn from(size: Size) -> u32 {
+        size as u32 + 1
+    }
+}
+
+// The size that a page calls by this name.
+impl TryFrom<&[u8]> for Size {
+    type Error = Fault;
+
+    ghost try_from_gives = { λ name r. MatchResult r (λ s. name.now ≡ size_name s) (λ e. (e ≡ UnknownSize) × ((s : AnySize) → name.now ≢ size_name s)) };
+
+    fn try_from(name: &[u8]) -> Result<Size, Fault> {
+        match name {
+            b"M16" => Ok(Size::M16),
+            b"M20" => Ok(Size::M20),
+            b"M22" => Ok(Size::M22),
+            b"M24" => Ok(Size::M24),
+            _ => Err(Fault::UnknownSize),
+        }
+    }
+}
 
 impl Size {
-    // The size of a number from 1 to 4.
-    pub fn of(number: u32) -> Option<Size>
-        ensures { result ≡ size_of number }
-    {
-        match number {
-            1 => Some(Size::M16),
-            2 => Some(Size::M20),
-            3 => Some(Size::M22),
-            4 => Some(Size::M24),
-            _ => None,
-        }
-    }
-
-    pub fn number(self) -> u32
-        ensures { result ≡ size_number self }
-    {
-        self as u32 + 1
-    }
-
-    // The size that a page calls by this name.
-    pub fn named(name: &[u8]) -> Option<Size>
-        ensures { MatchOption result ((s : AnySize) → name.now ≢ size_name s) (λ s. name.now ≡ size_name s) }
-    {
-        match name {
-            b"M16" => Some(Size::M16),
-            b"M20" => Some(Size::M20),
-            b"M22" => Some(Size::M22),
-            b"M24" => Some(Size::M24),
-            _ => None,
-        }
-    }
-
     pub fn name(self) -> &'static [u8]
         ensures name { result.now ≡ size_name self }
         ensures short { length result.now ≤ 3 }
@@ -70,17 +102,17 @@ impl Size {
     pub fn diameter(self) -> u32
         ensures { result ≡ diameter_of self }
     {
-        DIAMETER[self as usize]
+        SECTIONS[self as usize].diameter
     }
 
     pub fn area(self) -> u32
         ensures { result ≡ area_of self }
     {
-        AREA[self as usize]
+        SECTIONS[self as usize].area
     }
 }
 
-#[derive(Clone, Copy)]
+#[derive(Clone, Copy, Debug, PartialEq, Eq)]
 pub struct Bolt {
     pub size: Size,
     pub stress: Megapascals,
@@ -91,7 +123,7 @@ impl Bolt {
     pub fn in_range(&self) -> bool
         ensures { result ≡ bolt_ranges self.now }
     {
-        (1 <= self.stress.0 && self.stress.0 <= 1000) && (1 <= self.planes && self.planes <= 2)
+        (1..=1000).contains(&self.stress.0) && (1..=2).contains(&self.planes)
     }
 
     // Whether a hole's diameter suits: from the bolt's own to 8 mm more.
@@ -99,6 +131,6 @@ impl Bolt {
         ensures { result ≡ drilled self.now hole.now }
     {
         let d = self.size.diameter();
-        d <= hole.diameter && hole.diameter <= d + 8
+        (d..=d + 8).contains(&hole.diameter)
     }
 }

@@ -1,6 +1,9 @@
 // Why a call on a sheet says no.
-ghost use Rattle.std.specs.Prelude.{◌≡◌};
-ghost use Rattle.parts.specs.Refusals.{refusal_number};
+ghost use Rattle.std.specs.Prelude.{◌≡◌, Some};
+ghost use Rattle.parts.specs.Refusals.{refusal_number, refusal_text};
+
+use std::error::Error;
+use std::fmt;
 
 #[derive(Clone, Copy, Debug, PartialEq, Eq)]
 pub enum Fault {
@@ -40,3 +43,17 @@ impl Fault {
         }
     }
 }
+
+impl fmt::Display for Fault {
+    ghost output = { λ fault. Some (refusal_text fault) };
+
+    fn fmt<W: fmt::Write>(&self, f: &mut fmt::Formatter<W>) -> fmt::Result {
+        let number = self.number();
+        match self {
+            Fault::TooClose { hole } => write!(f, "refused {number}, too close to hole {hole}"),
+            _ => write!(f, "refused {number}"),
+        }
+    }
+}
+
+impl Error for Fault {}

@@ -2,7 +2,7 @@
 ghost use Rattle.std.specs.Prelude.{◌≡◌};
 ghost use Rattle.parts.specs.Holes.{before, centred, apart};
 
-#[derive(Clone, Copy)]
+#[derive(Clone, Copy, Debug, Default, PartialEq, Eq)]
 pub struct Hole {
     pub x: u32,
     pub y: u32,
@@ -14,13 +14,13 @@ impl Hole {
     pub fn is_before(&self, other: &Hole) -> bool
         ensures { result ≡ before self.now other.now }
     {
-        self.y < other.y || (self.y == other.y && self.x < other.x)
+        (self.y, self.x) < (other.y, other.x)
     }
 
     pub fn is_at(&self, x: u32, y: u32) -> bool
         ensures { result ≡ centred x y self.now }
     {
-        self.x == x && self.y == y
+        (self.x, self.y) == (x, y)
     }
 
     // Whether two holes keep 2 2/3 bolt diameters from centre to centre.

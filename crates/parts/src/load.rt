@@ -1,8 +1,11 @@
 // The seven loads, by their letters.
-ghost use Rattle.std.specs.Prelude.{◌≡◌};
+ghost use Rattle.std.specs.Prelude.{◌≡◌, ok_or};
 ghost use Rattle.parts.specs.LoadKinds.{kind_number, kind_of, letter_of};
+ghost use Rattle.parts.specs.declared.fault.Fault.TheVariants.{UnknownLoad};
 
-#[derive(Clone, Copy)]
+use crate::fault::Fault;
+
+#[derive(Clone, Copy, Debug, PartialEq, Eq)]
 pub enum LoadKind {
     Dead,
     Live,
@@ -14,25 +17,42 @@ pub enum LoadKind {
 }
 
 impl LoadKind {
-    pub fn of(letter: char) -> Option<LoadKind>
-        ensures { result ≡ kind_of letter }
-    {
+    // In the order of their numbers.
+    pub const ALL: [LoadKind; 7] = [
+        LoadKind::Dead,
+        LoadKind::Live,
+        LoadKind::RoofLive,
+        LoadKind::Snow,
+        LoadKind::Rain,
+        LoadKind::Wind,
+        LoadKind::Earthquake,
+    ];
+}
+
+impl TryFrom<char> for LoadKind {
+    type Error = Fault;
+
+    ghost try_from_gives = { λ letter r. r ≡ ok_or (kind_of letter) UnknownLoad };
+
+    fn try_from(letter: char) -> Result<LoadKind, Fault> {
         match letter {
-            'D' => Some(LoadKind::Dead),
-            'L' => Some(LoadKind::Live),
-            'A' => Some(LoadKind::RoofLive),
-            'S' => Some(LoadKind::Snow),
-            'R' => Some(LoadKind::Rain),
-            'W' => Some(LoadKind::Wind),
-            'E' => Some(LoadKind::Earthquake),
-            _ => None,
+            'D' => Ok(LoadKind::Dead),
+            'L' => Ok(LoadKind::Live),
+            'A' => Ok(LoadKind::RoofLive),
+            'S' => Ok(LoadKind::Snow),
+            'R' => Ok(LoadKind::Rain),
+            'W' => Ok(LoadKind::Wind),
+            'E' => Ok(LoadKind::Earthquake),
+            _ => Err(Fault::UnknownLoad),
         }
     }
+}
 
-    pub fn letter(self) -> char
-        ensures { result ≡ letter_of self }
-    {
-        match self {
+impl From<LoadKind> for char {
+    ghost from_gives = { λ kind letter. letter ≡ letter_of kind };
+
+    fn from(kind: LoadKind) -> char {
+        match kind {
             LoadKind::Dead => 'D',
             LoadKind::Live => 'L',
             LoadKind::RoofLive => 'A',
@@ -42,11 +62,13 @@ impl LoadKind {
             LoadKind::Earthquake => 'E',
         }
     }
+}
 
-    // Its number, from 0 to 6: its place among a sheet's loads.
-    pub fn number(self) -> usize
-        ensures { result ≡ kind_number self }
-    {
-        self as usize
+// Its number, from 0 to 6: its place among a sheet's loads.
+impl From<LoadKind> for usize {
+    ghost from_gives = { λ kind number. number ≡ kind_number kind };
+
+    fn from(kind: LoadKind) -> usize {
+        kind as usize
     }
 }

@@ -1,19 +1,20 @@
 // A length, a stress and a force are each a quantity of its own: sums and order stay within one.
+// Each has its own sum, since one sum for all would be that of a single type with a unit, and they are three types.
 ghost use Rattle.std.specs.Prelude.{◌≡◌, ◌+ℤ◌, ◌-ℤ◌, FitsSigned};
 ghost use Rattle.std.specs.Int.{w64};
 
 use std::ops::{Add, Sub};
 
 // A net width or a stagger term, in thousandths of a millimetre.
-#[derive(Clone, Copy, PartialEq, Eq, PartialOrd, Ord)]
+#[derive(Clone, Copy, Debug, PartialEq, Eq, PartialOrd, Ord)]
 pub struct Micrometres(pub i64);
 
 // A yield, tensile or shear stress.
-#[derive(Clone, Copy, PartialEq, Eq, PartialOrd, Ord)]
+#[derive(Clone, Copy, Debug, PartialEq, Eq, PartialOrd, Ord)]
 pub struct Megapascals(pub u32);
 
 // A row of the loads or a strength, in tenths of a newton.
-#[derive(Clone, Copy, PartialEq, Eq, PartialOrd, Ord)]
+#[derive(Clone, Copy, Debug, PartialEq, Eq, PartialOrd, Ord)]
 pub struct Decinewtons(pub i64);
 
 impl Add<Micrometres> for Micrometres {

@@ -1,5 +1,8 @@
 -- Each load has its own letter and number, and a page marks the letters that stood.
 use Rattle.std.proofs.Common.{◌≡◌, ℕ, ◌<◌, Bool, true, false, ◌⊎◌, List, [], ◌∷◌, length, get_or, set, ℤ, Some, None, codes, Option, sym, refl, ap, ◌∙◌, subst, inl, inr, ⊎_elim, arith, length-set, MatchOption}
+use Rattle.std.specs.Result.{result_ok}
+use Rattle.std.specs.Option.{ok_or}
+use Rattle.parts.specs.declared.fault.Fault.TheVariants.{UnknownLoad}
 use Rattle.std.proofs.lemmas.List.{get_or-set_same, get_or-set_other}
 use Rattle.std.proofs.lemmas.Bool.{both_ways, cases_eq}
 use Rattle.std.proofs.lemmas.Bool.Decides.{nat_tests}
@@ -44,6 +47,11 @@ one_byte : (w : List ℕ) → length w ≡ 1 → w ≡ get_or w 0 0 ∷ []
 one_byte [] e = absurd (omega arith)
 one_byte (x ∷ []) e = refl
 one_byte (x ∷ y ∷ w) e = absurd (omega arith)
+
+-- no kind, where its letter is refused
+pub ok_again : (o : Option LoadKind) → result_ok (ok_or o UnknownLoad) ≡ o
+ok_again None = refl
+ok_again (Some k) = refl
 
 -- the load that a word of one byte names
 pub kind_by : (w : List ℕ) (b : ℕ) (r : Option LoadKind) → length w ≡ 1 → b ≡ get_or w 0 0 → r ≡ kind_of b → MatchOption r ((k : LoadKind) → Names w k → ⊥) (Names w)

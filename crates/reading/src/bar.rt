@@ -21,13 +21,13 @@ fn bar_line(cursor: &mut Cursor<'_>, sheet: &mut Open) -> Result<(), ReadFault>
             line,
         });
     };
-    let Some(steel) = Steel::named(name) else {
+    let Ok(steel) = Steel::try_from(name) else {
         return Err(ReadFault {
             cause: Cause::Sheet(Fault::UnknownSteel),
             line,
         });
     };
-    on_line(sheet.bar(width, thickness, steel.number(), edge), line)
+    on_line(sheet.bar(width, thickness, u32::from(steel), edge), line)
 }
 
 pub(crate) fn bar_section(cursor: &mut Cursor<'_>, sheet: &mut Open) -> Result<(), ReadFault>

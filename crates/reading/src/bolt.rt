@@ -21,13 +21,13 @@ fn bolt_line(cursor: &mut Cursor<'_>, sheet: &mut Open) -> Result<(), ReadFault>
             line,
         });
     };
-    let Some(size) = Size::named(name) else {
+    let Ok(size) = Size::try_from(name) else {
         return Err(ReadFault {
             cause: Cause::Sheet(Fault::UnknownSize),
             line,
         });
     };
-    on_line(sheet.bolt(size.number(), stress, planes), line)
+    on_line(sheet.bolt(u32::from(size), stress, planes), line)
 }
 
 pub(crate) fn bolt_section(cursor: &mut Cursor<'_>, sheet: &mut Open) -> Result<(), ReadFault>

@@ -18,7 +18,7 @@ fn kind_named(name: &[u8]) -> Option<LoadKind>
     ensures { MatchOption result ((k : AnyKind) → Names name.now k → ⊥) (λ k. Names name.now k) }
 {
     if name.len() == 1 {
-        LoadKind::of(char::from(name[0]))
+        LoadKind::try_from(char::from(name[0])).ok()
     } else {
         None
     }
@@ -45,7 +45,7 @@ fn load_line(
             line,
         });
     };
-    let place = kind.number();
+    let place = usize::from(kind);
     if seen[place] {
         return Err(ReadFault {
             cause: Cause::LetterAgain,
@@ -53,7 +53,7 @@ fn load_line(
         });
     }
     seen[place] = true;
-    on_line(sheet.load(kind.letter(), newtons), line)
+    on_line(sheet.load(char::from(kind), newtons), line)
 }
 
 fn load_lines(cursor: &mut Cursor<'_>, sheet: &mut Open) -> Result<(), ReadFault>

@@ -59,9 +59,9 @@ pub fn write_holes(draft: &mut Draft, holes: &[Hole])
 fn write_load(draft: &mut Draft, kind: LoadKind, loads: &[i32; 7])
     ensures { Adds draft.old (load_line (load_at loads.now kind)) draft.new }
 {
-    draft.byte(kind.letter() as u8);
+    draft.byte(char::from(kind) as u8);
     draft.byte(b' ');
-    draft.signed(loads[kind.number()] as i64);
+    draft.signed(loads[usize::from(kind)] as i64);
     draft.byte(b'\n');
 }
 

@@ -49,9 +49,7 @@ impl Open {
         if !self.sheet.is_empty() {
             return Err(Fault::HolesStand);
         }
-        let Some(steel) = Steel::of(steel) else {
-            return Err(Fault::UnknownSteel);
-        };
+        let steel = Steel::try_from(steel)?;
         let bar = Bar {
             width,
             thickness,
@@ -77,9 +75,7 @@ impl Open {
         if !self.sheet.is_empty() {
             return Err(Fault::HolesStand);
         }
-        let Some(size) = Size::of(size) else {
-            return Err(Fault::UnknownSize);
-        };
+        let size = Size::try_from(size)?;
         let bolt = Bolt {
             size,
             stress: Megapascals(stress),
@@ -137,14 +133,12 @@ impl Open {
     pub fn load(&mut self, letter: char, newtons: i32) -> Result<(), Fault>
         ensures { Loads (open_account self.old) letter newtons result (open_account self.new) }
     {
-        let Some(kind) = LoadKind::of(letter) else {
-            return Err(Fault::UnknownLoad);
-        };
+        let kind = LoadKind::try_from(letter)?;
         if newtons < -10_000_000 || newtons > 10_000_000 {
             return Err(Fault::LoadOutOfRange);
         }
         let mut loads = self.sheet.loads;
-        loads[kind.number()] = newtons;
+        loads[usize::from(kind)] = newtons;
         self.sheet = Sheet {
             bar: self.sheet.bar,
             bolt: self.sheet.bolt,

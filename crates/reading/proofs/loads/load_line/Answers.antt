@@ -27,7 +27,7 @@ returns-then-seen-place c = λ i room. record {
             load_shape c.args.cursor.now _ (c.in-Some.name, c.in-Some.newtons) c.in-Some.ensures,
             c.in-Some-kind_named.kind,
             c.in-Some-kind_named.ensures,
-            d.marks.stood c.in-Some-kind_named.kind (subst (λ (n : ℕ). get_or c.args.seen.now n false ≡ true) c.number-place.ensures c.if-seen-place.true),
+            d.marks.stood c.in-Some-kind_named.kind (subst (λ (n : ℕ). get_or c.args.seen.now n false ≡ true) c.from-place.ensures c.if-seen-place.true),
           ),
         ))),
       );
@@ -36,6 +36,6 @@ returns-then-seen-place c = λ i room. record {
 pub returns : goal.returns
 returns c = λ i room. record {
   goes = λ text d at.
-      load_told i c.args.seen.now d (c.in-Some.name, c.in-Some.newtons) c.in-Some-kind_named.kind c.number-place.result c.letter.result c.line-line.result (to_z w32 (of_z w32 c.in-Some.newtons)) c.load.result c.on_line.result
-      room at c.in-Some.ensures c.in-Some-kind_named.ensures c.number-place.ensures c.letter.ensures c.if-seen-place.false c.line-line.ensures.count (through c.in-Some.newtons c.in-Some.ensures.1) c.load.ensures c.on_line.ensures;
+      load_told i c.args.seen.now d (c.in-Some.name, c.in-Some.newtons) c.in-Some-kind_named.kind c.from-place.result c.from.result c.line-line.result (to_z w32 (of_z w32 c.in-Some.newtons)) c.load.result c.on_line.result
+      room at c.in-Some.ensures c.in-Some-kind_named.ensures c.from-place.ensures c.from.ensures c.if-seen-place.false c.line-line.ensures.count (through c.in-Some.newtons c.in-Some.ensures.1) c.load.ensures c.on_line.ensures;
 }

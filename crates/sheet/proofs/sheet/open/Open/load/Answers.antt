@@ -13,6 +13,6 @@ invariant_of-self c =
       bar_ok = s.bar_ok;
       bolt_ok = s.bolt_ok;
       seven = search rules;
-      bearable = bearable_set s.loads c.number.result z fits s.bearable;
+      bearable = bearable_set s.loads c.from.result z fits s.bearable;
       law = s.law;
     }
