@@ -1,16 +1,20 @@
 -- The numbers on a slip, up to its first 0.
-use Rattle.std.proofs.Common.{◌≡◌, ℕ, zero, suc, ◌<◌, List, [], ◌∷◌, length, get_or, take, refl, ap, arith}
+use Rattle.std.proofs.Common.{◌≡◌, ◌==◌, ◌≤◌, ℕ, zero, suc, nat_lt, false, List, [], ◌∷◌, length, take, cond, unwrap_or, Some, None, refl, ap, one-add, arith}
+use Rattle.std.specs.List.{position, position_or_len, prefix_len}
+use Rattle.std.proofs.lemmas.List.Sums.{prefix_len-le-length}
+use Rattle.std.proofs.lemmas.Bool.Decides.{nat_tests}
 use Rattle.chains.specs.Slips.{told}
 
-pub told_before : (ss : List ℕ) (i : ℕ) → i < length ss → get_or ss i 0 ≡ 0 → ((k : ℕ) → k < i → get_or ss k 0 ≡ 0 → ⊥) → take i ss ≡ told ss
-told_before [] i h e none = absurd (omega arith)
-told_before (zero ∷ ss) zero h e none = refl
-told_before (zero ∷ ss) (suc i) h e none = absurd (none 0 (omega arith) refl)
-told_before (suc s ∷ ss) zero h e none = absurd (omega arith)
-told_before (suc s ∷ ss) (suc i) h e none =
-    ap (λ l. suc s ∷ l) (told_before ss i (omega arith) e (λ k l. none (suc k) (omega arith)))
+no_nought : (s : ℕ) → (suc s == 0) ≡ false
+no_nought s = grind (arith, nat_tests)
 
-pub told_all : (ss : List ℕ) → ((k : ℕ) → k < length ss → get_or ss k 0 ≡ 0 → ⊥) → ss ≡ told ss
-told_all [] none = refl
-told_all (zero ∷ ss) none = absurd (none 0 (omega arith) refl)
-told_all (suc s ∷ ss) none = ap (λ l. suc s ∷ l) (told_all ss (λ k l. none (suc k) (omega arith)))
+before_nought : (ss : List ℕ) → take (position_or_len (λ n. n == 0) ss) ss ≡ told ss
+before_nought [] = refl
+before_nought (zero ∷ ss) = refl
+before_nought (suc s ∷ ss) = rw (no_nought s, one-add) (ap (λ l. suc s ∷ l) (before_nought ss))
+
+or_end : (i n : ℕ) → i ≤ n → unwrap_or (cond (nat_lt i n) (Some i) None) n ≡ i
+or_end i n h = grind (arith, nat_tests)
+
+pub told_before : (ss : List ℕ) (n : ℕ) → n ≡ length ss → take (unwrap_or (position (λ n. n == 0) ss) n) ss ≡ told ss
+told_before ss n long = rw long (rw (or_end (position_or_len (λ n. n == 0) ss) (length ss) (prefix_len-le-length _ ss)) (before_nought ss))

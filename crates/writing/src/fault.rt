@@ -1,14 +1,23 @@
 // Why no page is written.
 ghost use Rattle.std.specs.Prelude.{◌≡◌};
 ghost use Rattle.writing.specs.Faults.{page_number};
+ghost use Rattle.writing.specs.declared.fault.PageFault.TheVariants.{Sheet};
 
 use parts::fault::Fault;
 
-#[derive(Clone, Copy)]
+#[derive(Clone, Copy, Debug, PartialEq, Eq)]
 pub enum PageFault {
     // What the sheet says, whole.
     Sheet(Fault),
     NoRoom,
+}
+
+impl From<Fault> for PageFault {
+    ghost from_gives = { λ fault r. r ≡ Sheet fault };
+
+    fn from(fault: Fault) -> Self {
+        Self::Sheet(fault)
+    }
 }
 
 impl PageFault {

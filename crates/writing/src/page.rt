@@ -30,12 +30,6 @@ fn drafted<B: Bank>(joint: Joint<'_>, bank: &B) -> Draft
 pub fn page<B: Bank>(sheet: &Closed, bank: &B, out: &mut [u8]) -> Result<usize, PageFault>
     ensures { Pages (B.rated bank.now) (closed_account sheet.now) out.old result out.new }
 {
-    let joint = match Joint::of(sheet.sheet()) {
-        Ok(joint) => joint,
-        Err(fault) => return Err(PageFault::Sheet(fault)),
-    };
-    match drafted(joint, bank).copy_to(out) {
-        Some(n) => Ok(n),
-        None => Err(PageFault::NoRoom),
-    }
+    let joint = Joint::of(sheet.sheet())?;
+    drafted(joint, bank).copy_to(out).ok_or(PageFault::NoRoom)
 }

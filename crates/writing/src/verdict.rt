@@ -31,12 +31,8 @@ pub(crate) fn write_verdict(draft: &mut Draft, judgment: &Judgment)
 pub(crate) fn numbers_on(slip: &[u8; 32]) -> &[u8]
     ensures { result.now ≡ told slip.now }
 {
-    for (i, number) in slip.iter().enumerate() {
-        if *number == 0 {
-            return &slip[0..i];
-        }
-    }
-    slip
+    let count = slip.iter().position(|n| *n == 0).unwrap_or(slip.len());
+    &slip[..count]
 }
 
 fn write_number(draft: &mut Draft, number: u8)

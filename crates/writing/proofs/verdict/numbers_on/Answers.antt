@@ -1,12 +1,12 @@
-use Rattle.std.proofs.Common.{ℕ, take, ap, ◌∙◌, arith}
-use native.Mathlib.Nat.{sub-zero}
-use Rattle.writing.proofs.Slip.{told_before, told_all}
+use Rattle.std.proofs.Common.{◌≡◌, ◌==◌, Option, arith, rules, tests}
+use Rattle.std.specs.List.{position}
+use Rattle.std.proofs.lemmas.Iterator.{YieldsList-from_slice}
+use Rattle.std.proofs.lemmas.Iterator.Search.{position_from_yields_List}
+use Rattle.writing.proofs.Slip.{told_before}
 use Rattle.writing.proofs.verdict.numbers_on.Goals as goal
 
-pub returns-then-number-eq0 : goal.returns-then-number-eq0
-returns-then-number-eq0 c =
-    ap (λ (k : ℕ). take k c.args.slip.now) (sub-zero c.loop-i.i)
-    ∙ told_before c.args.slip.now c.loop-i.i (omega arith) c.if-number-eq0.true c.loop-i.invariant
-
 pub returns : goal.returns
-returns c = told_all c.args.slip.now (λ k h. c.loop-i.invariant k (omega (arith, c.loop-i-test.false)))
+returns c =
+    let found : c.position.result ≡ position (λ n. n == 0) c.args.slip.now =
+    position_from_yields_List (λ n. n == 0) _ _ c.position.result c.position.ensures.ran (YieldsList-from_slice c.args.slip.now cc) (λ x b q k. search (rules, tests)) in
+    rw (c.unwrap_or-count.ensures, found) (told_before c.args.slip.now 32 (omega arith))
