@@ -1,6 +1,6 @@
 -- The numbers on a slip, up to its first 0.
 use Rattle.std.proofs.Common.{◌≡◌, ◌==◌, ◌≤◌, ℕ, zero, suc, nat_lt, false, List, [], ◌∷◌, length, take, cond, unwrap_or, Some, None, refl, ap, one-add, arith}
-use Rattle.std.specs.List.{position, position_or_len, prefix_len}
+use Rattle.std.specs.List.{position, position_or_len}
 use Rattle.std.proofs.lemmas.List.Sums.{prefix_len-le-length}
 use Rattle.std.proofs.lemmas.Bool.Decides.{nat_tests}
 use Rattle.chains.specs.Slips.{told}

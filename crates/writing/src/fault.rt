@@ -1,9 +1,11 @@
 // Why no page is written.
-ghost use Rattle.std.specs.Prelude.{◌≡◌};
-ghost use Rattle.writing.specs.Faults.{page_number};
+ghost use Rattle.std.specs.Prelude.{◌≡◌, Some};
+ghost use Rattle.writing.specs.Faults.{page_number, page_refusal_text};
 ghost use Rattle.writing.specs.declared.fault.PageFault.TheVariants.{Sheet};
 
 use parts::fault::Fault;
+use std::error::Error;
+use std::fmt;
 
 #[derive(Clone, Copy, Debug, PartialEq, Eq)]
 pub enum PageFault {
@@ -30,3 +32,16 @@ impl PageFault {
         }
     }
 }
+
+impl fmt::Display for PageFault {
+    ghost output = { λ fault. Some (page_refusal_text fault) };
+
+    fn fmt<W: fmt::Write>(&self, f: &mut fmt::Formatter<W>) -> fmt::Result {
+        match self {
+            PageFault::Sheet(fault) => write!(f, "{fault}"),
+            PageFault::NoRoom => write!(f, "refused {}", self.number()),
+        }
+    }
+}
+
+impl Error for PageFault {}

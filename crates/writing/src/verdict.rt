@@ -7,6 +7,7 @@ ghost use Rattle.writing.specs.Texts.{verdict_text, chain_line, chain_text};
 use judging::judgment::Judgment;
 use text::draft::Draft;
 
+// Seven pieces by name: a loop over them would hide which is which.
 pub(crate) fn write_verdict(draft: &mut Draft, judgment: &Judgment)
     ensures { Adds draft.old (verdict_text judgment.now) draft.new }
 {

@@ -1,4 +1,4 @@
-use Rattle.std.proofs.Common.{[], ◌∷◌, decimal, ap, w64, SFits, rules}
+use Rattle.std.proofs.Common.{[], ◌∷◌, decimal, ap, w64, rules}
 use Rattle.std.specs.Fmt.{signed_decimal}
 use Rattle.std.proofs.lemmas.Int.{to_z-of_z}
 use Rattle.text.proofs.Chained.{◌then◌, same}
