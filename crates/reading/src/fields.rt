@@ -4,12 +4,13 @@ ghost use Rattle.reading.specs.Shapes.{HeaderShape, BarShape, BoltShape, HoleSha
 ghost use Rattle.std.specs.Option.{MatchOption};
 
 use text::cursor::Cursor;
+use text::pieces::Piece;
 
 // A count and a name.
 pub(crate) fn header_fields<'a>(cursor: &mut Cursor<'a>) -> Option<(u32, &'a [u8])>
     ensures { MatchOption result (HeaderShape cursor.old.rest.now → ⊥) (λ f. HeaderFields cursor.old f cursor.new) }
 {
-    let (p, q) = cursor.line_of_two()?;
+    let [p, q] = cursor.line_of::<Piece, 2>()?;
     let count = p.unsigned()?;
     Some((count, q.text()))
 }
@@ -18,7 +19,7 @@ pub(crate) fn header_fields<'a>(cursor: &mut Cursor<'a>) -> Option<(u32, &'a [u8
 pub(crate) fn bar_fields<'a>(cursor: &mut Cursor<'a>) -> Option<(u32, u32, &'a [u8], u32)>
     ensures { MatchOption result (BarShape cursor.old.rest.now → ⊥) (λ f. BarFields cursor.old f cursor.new) }
 {
-    let (p, q, s, t) = cursor.line_of_four()?;
+    let [p, q, s, t] = cursor.line_of::<Piece, 4>()?;
     let width = p.unsigned()?;
     let thickness = q.unsigned()?;
     let edge = t.unsigned()?;
@@ -29,7 +30,7 @@ pub(crate) fn bar_fields<'a>(cursor: &mut Cursor<'a>) -> Option<(u32, u32, &'a [
 pub(crate) fn bolt_fields<'a>(cursor: &mut Cursor<'a>) -> Option<(&'a [u8], u32, u32)>
     ensures { MatchOption result (BoltShape cursor.old.rest.now → ⊥) (λ f. BoltFields cursor.old f cursor.new) }
 {
-    let (p, q, s) = cursor.line_of_three()?;
+    let [p, q, s] = cursor.line_of::<Piece, 3>()?;
     let stress = q.unsigned()?;
     let planes = s.unsigned()?;
     Some((p.text(), stress, planes))
@@ -39,7 +40,7 @@ pub(crate) fn bolt_fields<'a>(cursor: &mut Cursor<'a>) -> Option<(&'a [u8], u32,
 pub(crate) fn hole_fields(cursor: &mut Cursor<'_>) -> Option<(u32, u32, u32)>
     ensures { MatchOption result (HoleShape cursor.old.rest.now → ⊥) (λ f. HoleFields cursor.old f cursor.new) }
 {
-    let (p, q, s) = cursor.line_of_three()?;
+    let [p, q, s] = cursor.line_of::<Piece, 3>()?;
     let x = p.unsigned()?;
     let y = q.unsigned()?;
     let diameter = s.unsigned()?;
@@ -50,7 +51,7 @@ pub(crate) fn hole_fields(cursor: &mut Cursor<'_>) -> Option<(u32, u32, u32)>
 pub(crate) fn load_fields<'a>(cursor: &mut Cursor<'a>) -> Option<(&'a [u8], i32)>
     ensures { MatchOption result (LoadShape cursor.old.rest.now → ⊥) (λ f. LoadFields cursor.old f cursor.new) }
 {
-    let (p, q) = cursor.line_of_two()?;
+    let [p, q] = cursor.line_of::<Piece, 2>()?;
     let value = q.signed()?;
     Some((p.text(), value))
 }

@@ -8,7 +8,9 @@ pub mod Headers
 pub mod Heads
 pub mod Lengths
 pub mod Lines
+pub mod Listed
 pub mod Means
 pub mod Minus
+pub mod Partway
 pub mod Spaces
 pub mod Spelled

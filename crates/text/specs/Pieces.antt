@@ -1,5 +1,6 @@
 -- What a piece of a line says.
-use Rattle.std.specs.Prelude.{◌≡◌, ℕ, List, [], ◌∷◌, ℤ, pos, negsuc, Some, None, Option}
+use Rattle.std.specs.Prelude.{◌≡◌, ℕ, List, map, length, ℤ, pos, negsuc, Some, None, Option}
+use Rattle.std.specs.List.{AllByRecursion}
 use Rattle.text.specs.Figures.{TellsSigned}
 use Rattle.text.specs.Words.{Spaced, NotOf}
 use Rattle.text.specs.declared.pieces.Piece.{Piece}
@@ -35,29 +36,7 @@ pub record Sound (at : ℕ) (p : Piece) : Type 0 where
   pub stands : line_of p ≡ at
   pub right : Right p
 
--- so is each of these
-abbrev pub Sounds : ℕ → List Piece → Type 0
-Sounds at [] = Unit {0}
-Sounds at (p ∷ ps) = Sound at p × Sounds at ps
-
--- what these say, in order
-abbrev pub texts : List Piece → List (List ℕ)
-texts [] = []
-texts (p ∷ ps) = said p ∷ texts ps
-
--- two pieces, in order
-abbrev pub of2 : Piece × Piece → List Piece
-of2 p = p.0 ∷ p.1 ∷ []
-
--- three
-abbrev pub of3 : Piece × Piece × Piece → List Piece
-of3 p = p.0 ∷ p.1 ∷ p.2 ∷ []
-
--- four
-abbrev pub of4 : Piece × Piece × Piece × Piece → List Piece
-of4 p = p.0 ∷ p.1 ∷ p.2 ∷ p.3 ∷ []
-
--- r is the line's k pieces, or it is no k pieces
-abbrev pub Parted : {X : Type 0} → ℕ → (X → List Piece) → List ℕ → ℕ → Option X → Type 0
-Parted k list line at None = NotOf k line
-Parted k list line at (Some x) = Spaced line (texts (list x)) × Sounds at (list x)
+-- r is the line's k pieces, each sound there, or it is no k pieces
+abbrev pub Parted : {P : Type 0} → (P → List ℕ) → (ℕ → P → Type 0) → ℕ → List ℕ → ℕ → Option (List P) → Type 0
+Parted says is_sound k line at None = NotOf k line
+Parted says is_sound k line at (Some ps) = (length ps ≡ k) × Spaced line (map says ps) × AllByRecursion (is_sound at) ps

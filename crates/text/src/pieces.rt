@@ -1,12 +1,26 @@
 // The pieces of a line, which borrow the page.
 ghost use Rattle.std.specs.Prelude.{◌≡◌, ℕ, List, MatchOption};
-ghost use Rattle.text.specs.Pieces.{said, line_of, unsigned_of, signed_of, Sound, Parted, of2, of3, of4};
-ghost use Rattle.text.specs.Words.{Begun, Word as WordText};
+ghost use Rattle.text.specs.Pieces.{said, line_of, unsigned_of, signed_of, Sound, Parted};
+ghost use Rattle.text.specs.Words.{Word as WordText};
 
 use crate::cutting::cut;
 use crate::numbers::signed_number;
 
-#[derive(Clone, Copy)]
+// What a piece of a line is taken as.
+// An array of references gets no proof where its length is a parameter, so the pieces of a line are of a type parameter.
+pub trait FromText<'a>: Copy {
+    // Its stretch of the page.
+    ghost said: { Self → List ℕ };
+
+    // It stands on this line, and is right.
+    ghost is_sound: { ℕ → Self → Type 0 };
+
+    fn of(text: &'a [u8], line: usize) -> Self
+        ensures says { said result ≡ text.now }
+        ensures sound { is_sound line result };
+}
+
+#[derive(Clone, Copy, Debug, PartialEq, Eq)]
 pub enum Piece<'a> {
     Word {
         text: &'a [u8],
@@ -19,46 +33,42 @@ pub enum Piece<'a> {
     },
 }
 
-impl<'a> Piece<'a> {
-    // A number where the text writes one, else a word.
-    pub fn of(text: &'a [u8], line: usize) -> Piece<'a>
-        ensures says { said result ≡ text.now }
-        ensures sound { Sound line result }
-    {
+// A number where the text writes one, else a word.
+impl<'a> FromText<'a> for Piece<'a> {
+    ghost said = { said };
+
+    ghost is_sound = { Sound };
+
+    fn of(text: &'a [u8], line: usize) -> Piece<'a> {
         match signed_number(text) {
             Some(value) => Piece::Number { text, line, value },
             None => Piece::Word { text, line },
         }
     }
+}
 
+impl<'a> Piece<'a> {
     // Its stretch of the page.
     pub fn text(self) -> &'a [u8]
         ensures { result.now ≡ said self.entry }
     {
-        match self {
-            Piece::Word { text, .. } => text,
-            Piece::Number { text, .. } => text,
-        }
+        let (Piece::Word { text, .. } | Piece::Number { text, .. }) = self;
+        text
     }
 
     // The number of its line, from 1 on.
     pub fn line(self) -> usize
         ensures { result ≡ line_of self.entry }
     {
-        match self {
-            Piece::Word { line, .. } => line,
-            Piece::Number { line, .. } => line,
-        }
+        let (Piece::Word { line, .. } | Piece::Number { line, .. }) = self;
+        line
     }
 
     // Its number, if it is one and not under 0.
     pub fn unsigned(self) -> Option<u32>
         ensures { result ≡ unsigned_of self.entry }
     {
-        match self {
-            Piece::Number { value, .. } if value >= 0 => Some(value as u32),
-            _ => None,
-        }
+        u32::try_from(self.signed()?).ok()
     }
 
     // Its number, if it is one.
@@ -72,59 +82,31 @@ impl<'a> Piece<'a> {
     }
 }
 
-// The line as one piece. A number has no space, so only a word is looked through for one.
-fn one(text: &[u8], line: usize) -> Option<Piece<'_>>
-    ensures { MatchOption result (WordText text.now → ⊥) (λ p. WordText (said p) × (said p ≡ text.now) × Sound line p) }
+// The text as one piece.
+fn one<'a, P: FromText<'a>>(text: &'a [u8], line: usize) -> Option<P>
+    ensures { MatchOption result (WordText text.now → ⊥) (λ p. WordText (P.said p) × (P.said p ≡ text.now) × P.is_sound line p) }
 {
-    if let Some(value) = signed_number(text) {
-        return Some(Piece::Number { text, line, value });
-    }
-    if text.is_empty() {
-        return None;
-    }
-    match cut(text, b' ') {
-        None => Some(Piece::Word { text, line }),
-        Some(_) => None,
+    if text.is_empty() || text.contains(&b' ') {
+        None
+    } else {
+        Some(P::of(text, line))
     }
 }
 
-// The first of several pieces, and what follows its space.
-fn first(text: &[u8], line: usize) -> Option<(Piece<'_>, &[u8])>
-    ensures { MatchOption result ((w rest : List ℕ) → Begun text.now w rest → ⊥) (λ p. Begun text.now (said p.0) p.1.now × Sound line p.0) }
+// The pieces of a line that has so many. A line of no pieces is empty.
+pub fn pieces_of<'a, P: FromText<'a>, const N: usize>(text: &'a [u8], line: usize) -> Option<[P; N]>
+    ensures { Parted P.said P.is_sound N text.now line result }
 {
-    let (word, rest) = cut(text, b' ')?;
-    if word.is_empty() {
-        return None;
+    let mut pieces = [P::of(&[], line); N];
+    let Some((last, before)) = pieces.split_last_mut() else {
+        return if text.is_empty() { Some(pieces) } else { None };
+    };
+    let mut rest = text;
+    for piece in before {
+        let (word, after) = cut(rest, b' ')?;
+        *piece = one(word, line)?;
+        rest = after;
     }
-    Some((Piece::of(word, line), rest))
-}
-
-// The two pieces of a line that has two.
-pub fn two(text: &[u8], line: usize) -> Option<(Piece<'_>, Piece<'_>)>
-    ensures { Parted 2 of2 text.now line result }
-{
-    let (p, rest) = first(text, line)?;
-    let q = one(rest, line)?;
-    Some((p, q))
-}
-
-// The three pieces of a line that has three.
-pub fn three(text: &[u8], line: usize) -> Option<(Piece<'_>, Piece<'_>, Piece<'_>)>
-    ensures { Parted 3 of3 text.now line result }
-{
-    let (p, rest) = first(text, line)?;
-    let (q, rest) = first(rest, line)?;
-    let s = one(rest, line)?;
-    Some((p, q, s))
-}
-
-// The four pieces of a line that has four.
-pub fn four(text: &[u8], line: usize) -> Option<(Piece<'_>, Piece<'_>, Piece<'_>, Piece<'_>)>
-    ensures { Parted 4 of4 text.now line result }
-{
-    let (p, rest) = first(text, line)?;
-    let (q, rest) = first(rest, line)?;
-    let (s, rest) = first(rest, line)?;
-    let t = one(rest, line)?;
-    Some((p, q, s, t))
+    *last = one(rest, line)?;
+    Some(pieces)
 }

@@ -2,6 +2,7 @@
 use std::test::Fail;
 use text::cursor::Cursor;
 use text::numbers::{number, signed_number};
+use text::pieces::Piece;
 
 #[test]
 fn plain_numbers(rt: HostRuntime) {
@@ -24,13 +25,11 @@ fn numbers_with_a_minus_sign(rt: HostRuntime) {
 #[test]
 fn a_page_of_two_lines(rt: HostRuntime) -> Result<(), Fail> {
     let mut page = Cursor::new(b"2 holes\n50  60\n");
-    let Some((count, name)) = page.line_of_two() else {
-        return Err(Fail::new("no line of two pieces"));
-    };
+    let [count, name] = page.line_of::<Piece, 2>().ok_or("no line of two pieces")?;
     assert_eq!(rt; count.unsigned(), Some(2));
     assert_eq!(rt; name.signed(), None);
     assert_eq!(rt; name.line(), 1);
-    assert!(rt; page.line_of_two().is_none());
+    assert!(rt; page.line_of::<Piece, 2>().is_none());
     assert_eq!(rt; page.rest().len(), 7);
     Ok(())
 }

@@ -1,4 +1,5 @@
 use Rattle.std.proofs.Common.{refl}
+use Rattle.text.proofs.Listed.{takes_each}
 use Rattle.text.proofs.Means.{unsigned_none}
 use Rattle.reading.proofs.Shaped.{header_pieces}
 use Rattle.reading.proofs.fields.header_fields.Goals as goal
@@ -8,5 +9,5 @@ returns-in_err-p c = rw c.from_residual.ensures (λ f. c.in_err-p.ensures.0 _ _ 
 
 pub returns-in_err-count : goal.returns-in_err-count
 returns-in_err-count c =
-    let t = c.in_ok-p.ensures in
-    rw c.from_residual-in_err-count.ensures (λ f. unsigned_none t.sound.0 c.in_err-count.ensures f.count (f.short, (header_pieces t.begins f).0))
+    rw c.from_residual-in_err-count.ensures
+    (λ f. unsigned_none (takes_each _ c.in_ok-p.ensures).sound.0 c.in_err-count.ensures f.count (f.short, (header_pieces (takes_each _ c.in_ok-p.ensures).begins f).0))
