@@ -1,13 +1,9 @@
 -- Loads within their range.
-use Rattle.std.proofs.Common.{◌≡◌, ℕ, zero, suc, ◌<◌, true, false, List, [], ◌∷◌, length, get_or, set, ℤ, pos, negsuc, ◌≤ℤ◌, refl, arith}
-use lib.Signed.{le_z, lt_z}
+use Rattle.std.proofs.Common.{◌≡◌, ℕ, zero, suc, ◌<◌, true, List, [], ◌∷◌, length, get_or, set, ℤ, pos, negsuc, ◌≤ℤ◌, refl, arith}
+use lib.Signed.{le_z}
 use Rattle.std.proofs.lemmas.Int.{ints}
 use Rattle.std.proofs.lemmas.Bool.{and_parts, and_from}
 use Rattle.sheet.specs.Law.{bearable, all_bearable}
-
--- the two tests of a load, passed
-pub bearable_by : (n : ℤ) → lt_z n (negsuc 9999999) ≡ false → lt_z (pos 10000000) n ≡ false → bearable n ≡ true
-bearable_by n p q = and_from (le_z (negsuc 9999999) n) (le_z n (pos 10000000)) (grind (arith, ints)) (grind (arith, ints))
 
 -- one load replaced by another within the range
 pub bearable_set : (ns : List ℤ) (k : ℕ) (n : ℤ) → bearable n ≡ true → all_bearable ns ≡ true → all_bearable (set ns k n) ≡ true

@@ -1,5 +1,5 @@
 -- What the law of the holes gives, and what keeps it.
-use Rattle.std.proofs.Common.{◌≡◌, ℕ, zero, suc, ◌+◌, ◌-◌, ◌*◌, ◌<◌, Bool, true, false, cond, not, ◌&&◌, ◌||◌, leb, List, [], ◌∷◌, length, get_or, Some, None, Option, sym, refl, ap, ◌∙◌, ⊎_elim, add_comm, arith}
+use Rattle.std.proofs.Common.{◌≡◌, ℕ, zero, suc, ◌+◌, ◌-◌, ◌*◌, ◌<◌, Bool, true, false, cond, not, ◌&&◌, ◌||◌, leb, List, [], ◌∷◌, length, get_or, Some, None, Ok, Option, Result, sym, refl, ap, ◌∙◌, ⊎_elim, add_comm, arith}
 use Rattle.std.proofs.lemmas.Nat.{mul-le}
 use Rattle.std.proofs.lemmas.Bool.Decides.{nat_tests}
 use Rattle.std.proofs.lemmas.Bool.{and_parts, and_from, cond_both, cond-true, cond-false, cases_Bool, leb-true, leb-false, not-false, both_ways, or_left, or_right}
@@ -9,7 +9,7 @@ use Rattle.parts.specs.declared.bolt.Bolt.{Bolt}
 use Rattle.parts.specs.declared.bolt.Size.{Size}
 use Rattle.parts.specs.declared.bolt.Size.TheVariants.{M16, M20, M22, M24}
 use Rattle.parts.specs.declared.fault.Fault.{Fault}
-use Rattle.sheet.specs.Account.{first}
+use Rattle.sheet.specs.Account.{first, answer}
 use Rattle.sheet.specs.Calls.{crowd_line, hole_fault, put_fault_by}
 use Rattle.parts.specs.Sizes.{diameter_of}
 use Rattle.parts.specs.Holes.{before, apart, gap, placed, drilled, centred}
@@ -169,6 +169,14 @@ law_put (Some bar) (Some bolt) hs h e law =
     let free = crowd_none (crowding (diameter_of bolt.size) h hs 1) position.1 in
     let p = and_from _ _ (not-false (placed bar h) position.0) (not-false (drilled bolt h) diameter.0) in
     (leb-false 32 (length hs) full.0, law_add bar bolt h hs p free law)
+
+no_refusal : (fault : Option Fault) (u : Unit {0}) → answer fault ≡ Ok u → fault ≡ None
+no_refusal None u e = refl
+no_refusal (Some f) u e = absurd (grind (arith, e))
+
+-- the same of an answer by the table
+pub law_accepted : (bar : Option Bar) (bolt : Option Bolt) (hs : List Hole) (h : Hole) {r : Result (Unit {0}) Fault} {u : Unit {0}} → r ≡ answer (put_fault_by bar bolt hs h) → r ≡ Ok u → lawful bar bolt hs ≡ true → (length hs < 32) × (lawful bar bolt (add h hs) ≡ true)
+law_accepted bar bolt hs h {r} {u} says is law = law_put bar bolt hs h (no_refusal _ u (sym says ∙ is)) law
 
 -- what the law says of each hole, and of each two
 pub each_at : (p : Hole → Bool) (hs : List Hole) (i : ℕ) (z : Hole) → i < length hs → each p hs ≡ true → p (get_or hs i z) ≡ true

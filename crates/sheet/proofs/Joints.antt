@@ -1,5 +1,5 @@
 -- A joint is sound, and shows all of its sheet.
-use Rattle.std.proofs.Common.{◌≡◌, ◌<◌, true, false, List, take, ℤ, is_some, Some, None, Option, refl, arith}
+use Rattle.std.proofs.Common.{◌≡◌, ◌<◌, true, false, List, ℤ, is_some, Some, None, Option, refl, arith}
 use Rattle.std.proofs.lemmas.Bool.{both_ways}
 use Rattle.parts.specs.declared.hole.Hole.{Hole}
 use Rattle.parts.specs.declared.bar.Bar.{Bar}
@@ -7,18 +7,19 @@ use Rattle.parts.specs.declared.bolt.Bolt.{Bolt}
 use Rattle.sheet.specs.Account.{Account}
 use Rattle.sheet.specs.Calls.{joint_fault}
 use Rattle.sheet.specs.Law.{none}
+use Rattle.sheet.specs.Rows.{holes_of}
 use Rattle.std.proofs.lemmas.List.{length-take-le}
 use Rattle.sheet.specs.Details.{Sound, details, whole}
 use Rattle.sheet.specs.declared.sheet.Sheet.{Sheet}
 use Rattle.sheet.specs.declared.sheet.joint.Joint.{Joint}
 use Rattle.sheet.proofs.Soundness.{sound_of, shown}
 
-pub sheet_sound : (s : Sheet) → is_some s.bar ≡ true → is_some s.bolt ≡ true → 0 < s.count
-    → Sound (shown s.bar s.bolt (take s.count s.holes) s.loads)
+pub sheet_sound : (s : Sheet) → is_some s.bar ≡ true → is_some s.bolt ≡ true → 0 < s.row.count
+    → Sound (shown s.bar s.bolt (holes_of s.row) s.loads)
 sheet_sound s p q some =
-    let long = length-take-le s.count s.holes (omega (arith, s.long, s.few)) in
-    sound_of s.bar s.bolt (take s.count s.holes) s.loads p q
-    (omega arith) (omega (arith, s.few)) s.bar_ok s.bolt_ok s.law s.seven s.bearable
+    let long = length-take-le s.row.count s.row.holes (omega (arith, s.row.long, s.row.few)) in
+    sound_of s.bar s.bolt (holes_of s.row) s.loads p q
+    (omega arith) (omega (arith, s.row.few)) s.bar_ok s.bolt_ok s.law s.seven s.bearable
 
 pub joint_sound : (j : Joint) → Sound (details j)
 joint_sound j = sheet_sound j.sheet.now j.barred j.bolted j.some

@@ -1,6 +1,5 @@
 pub mod Tables
 pub mod Holes
-pub mod Steps
 pub mod Shift
 pub mod Numbers
 pub mod Bearable

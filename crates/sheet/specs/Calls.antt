@@ -1,5 +1,5 @@
 -- Each call: when it is refused, and the account that it leaves where it is accepted.
-use Rattle.std.specs.Prelude.{◌≡◌, ℕ, ◌+◌, ◌<◌, true, false, not, ◌&&◌, List, [], ◌∷◌, ◌++◌, length, take, drop, ℤ, is_some, Some, None, Option, Result, nat_le, slice_set}
+use Rattle.std.specs.Prelude.{ℕ, true, not, ◌&&◌, List, [], ◌∷◌, length, ℤ, is_some, Some, None, Option, Result, nat_le, slice_set}
 use Rattle.std.specs.Option.{option_map}
 use Rattle.parts.specs.declared.hole.Hole.{Hole}
 use Rattle.parts.specs.declared.bar.Bar.{Bar}
@@ -91,11 +91,6 @@ without_hole a x y = record { bar = a.bar; bolt = a.bolt; holes = without x y a.
 
 abbrev pub Takes : Account → ℕ → ℕ → Result (Unit {0}) Fault → Account → Type 0
 Takes a x y r b = Settled (take_fault a x y) a (without_hole a x y) r b
-
--- inner: the place of the hole whose centre is (x, y); without it are those before and those after it
-abbrev pub Found : ℕ → ℕ → List Hole → Option ℕ → Type 0
-Found x y hs None = has_centre x y hs ≡ false
-Found x y hs (Some i) = (i < length hs) × (has_centre x y hs ≡ true) × (without x y hs ≡ take i hs ++ drop (i + 1) hs)
 
 -- ---- load
 

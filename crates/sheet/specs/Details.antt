@@ -1,5 +1,5 @@
 -- A joint: what it shows of its sheet, and what is certain of it.
-use Rattle.std.specs.Prelude.{◌≡◌, ℕ, ◌+◌, ◌*◌, ◌<◌, ◌≤◌, ◌⊎◌, List, length, take, ℤ, pos, negsuc, ◌≤ℤ◌, Some, None, Ok, Err, Result, slice_index_or}
+use Rattle.std.specs.Prelude.{◌≡◌, ℕ, ◌+◌, ◌*◌, ◌<◌, ◌≤◌, ◌⊎◌, List, length, ℤ, pos, negsuc, ◌≤ℤ◌, Some, None, Ok, Err, Result, slice_index_or}
 use Rattle.std.specs.Option.{unwrap_or}
 use Rattle.parts.specs.declared.hole.Hole.{Hole}
 use Rattle.parts.specs.declared.bar.Bar.{Bar}
@@ -11,6 +11,7 @@ use Rattle.parts.specs.Holes.{gap}
 use Rattle.parts.specs.Sizes.{diameter_of}
 use Rattle.sheet.specs.Account.{Account}
 use Rattle.sheet.specs.Calls.{joint_fault}
+use Rattle.sheet.specs.Rows.{holes_of}
 use Rattle.sheet.specs.declared.sheet.joint.Joint.{Joint}
 
 -- bar, bolt, holes in number order, and loads: nothing else decides a judgment
@@ -39,7 +40,7 @@ abbrev pub details : Joint → Details
 details j = record {
   bar = unwrap_or j.sheet.now.bar no_bar;
   bolt = unwrap_or j.sheet.now.bolt no_bolt;
-  holes = take j.sheet.now.count j.sheet.now.holes;
+  holes = holes_of j.sheet.now.row;
   loads = j.sheet.now.loads;
 }
 

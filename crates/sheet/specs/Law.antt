@@ -16,11 +16,6 @@ abbrev pub pairs : (Hole → Hole → Bool) → List Hole → Bool
 pairs r [] = true
 pairs r (h ∷ hs) = each (r h) hs && pairs r hs
 
--- how many holes from the first on pass the test without a break
-abbrev pub front : (Hole → Bool) → List Hole → ℕ
-front p [] = 0
-front p (h ∷ hs) = cond (p h) (front p hs + 1) 0
-
 abbrev pub none : List Hole → Bool
 none hs = length hs == 0
 

@@ -1,4 +1,5 @@
 pub mod Law
+pub mod Rows
 pub mod Account
 pub mod Calls
 pub mod Numbering

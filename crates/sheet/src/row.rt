@@ -1,97 +1,122 @@
-// Holes in a row, in number order: which is too close to a new one, and the row with one more or one fewer.
-ghost use Rattle.std.specs.Prelude.{◌≡◌, ◌+◌, ◌-◌, ◌<◌, ◌≤◌, not, ◌++◌, length, take, drop};
-ghost use Rattle.parts.specs.Holes.{before, centred};
-ghost use Rattle.sheet.specs.Law.{crowding, front, add};
+// The holes of a sheet in a row, in number order: which is too close to a new one, and the row with one more or one fewer.
+ghost use Rattle.std.specs.Prelude.{◌≡◌, ◌<◌, ◌≤◌, not, [], length, position, remove};
+ghost use Rattle.std.specs.List.{prefix_len};
+ghost use Rattle.parts.specs.Holes.{before, centred, apart};
+ghost use Rattle.sheet.specs.Account.{answer};
 ghost use Rattle.sheet.specs.Calls.{hole_fault};
+ghost use Rattle.sheet.specs.Law.{none, add};
 
 use parts::bar::Bar;
 use parts::bolt::Bolt;
 use parts::fault::Fault;
 use parts::hole::Hole;
 
-// The number of the first hole that is too close.
-pub(crate) fn crowding_hole(holes: &[Hole], hole: &Hole, diameter: u32) -> Option<u8>
-    requires { length holes.now ≤ 32 }
-    ensures { result ≡ crowding diameter hole.now holes.now 1 }
-{
-    let mut number = 1;
-    for other in holes {
-        if !other.is_apart(hole, diameter) {
-            return Some(number);
+// An array and its count, and no vector that grows: a change copies the row into the sheet that it writes, and to copy a vector may fail.
+#[derive(Clone, Copy)]
+pub(crate) struct Row {
+    count: usize,
+    holes: [Hole; 32],
+    ghost long: { length holes ≡ 32 },
+    ghost few: { count ≤ 32 },
+}
+
+impl Row {
+    ghost use Rattle.sheet.specs.Rows.{holes_of};
+
+    pub(crate) fn new() -> Row
+        ensures { holes_of result ≡ [] }
+    {
+        Row {
+            count: 0,
+            holes: [Hole::default(); 32],
         }
-        number += 1;
     }
-    None
-}
 
-// Why a hole cannot be put among these.
-pub(crate) fn hole_fault(bar: &Bar, bolt: &Bolt, holes: &[Hole], hole: &Hole) -> Option<Fault>
-    ensures { result ≡ hole_fault bar.now bolt.now holes.now hole.now }
-{
-    if holes.len() >= 32 {
-        return Some(Fault::Full);
+    pub(crate) fn as_slice(&self) -> &[Hole]
+        ensures { result.now ≡ holes_of self.now }
+    {
+        &self.holes[..self.count]
     }
-    if !bolt.suits(hole) {
-        return Some(Fault::DiameterOutside);
-    }
-    if !bar.has_place_for(hole) {
-        return Some(Fault::CentreOutside);
-    }
-    match crowding_hole(holes, hole, bolt.size.diameter()) {
-        Some(hole) => Some(Fault::TooClose { hole }),
-        None => None,
-    }
-}
 
-// How many holes come before this one.
-pub(crate) fn place_of(holes: &[Hole], hole: &Hole) -> usize
-    ensures within { result ≤ length holes.now }
-    ensures value { result ≡ front (λ k. before k hole.now) holes.now }
-{
-    let mut place = 0;
-    for other in holes {
-        if !other.is_before(hole) {
-            return place;
+    pub(crate) fn is_empty(&self) -> bool
+        ensures { result ≡ none (holes_of self.now) }
+    {
+        self.count == 0
+    }
+
+    // The place of the first hole that is too close.
+    fn crowding_place(&self, hole: &Hole, diameter: u32) -> Option<usize>
+        ensures { result ≡ position (λ k. not (apart diameter k hole.now)) (holes_of self.now) }
+    {
+        self.as_slice()
+            .iter()
+            .position(|other| !other.is_apart(hole, diameter))
+    }
+
+    // Why a hole cannot be put among these.
+    pub(crate) fn accepts(&self, bar: &Bar, bolt: &Bolt, hole: &Hole) -> Result<(), Fault>
+        ensures { result ≡ answer (hole_fault bar.now bolt.now (holes_of self.now) hole.now) }
+    {
+        if self.count >= 32 {
+            return Err(Fault::Full);
         }
-        place += 1;
-    }
-    place
-}
-
-pub(crate) fn with_hole(mut holes: [Hole; 32], count: usize, hole: Hole) -> [Hole; 32]
-    requires { count < 32 }
-    ensures long { length result ≡ 32 }
-    ensures row { take (count + 1) result ≡ add hole (take count holes) }
-{
-    let place = place_of(&holes[0..count], &hole);
-    holes[count] = hole;
-    let moved = &mut holes[place..count + 1];
-    moved.rotate_right(1);
-    holes
-}
-
-// How many holes come before the one whose centre is there; all of them where there is none.
-pub(crate) fn place_at(holes: &[Hole], x: u32, y: u32) -> usize
-    ensures within { result ≤ length holes.now }
-    ensures value { result ≡ front (λ k. not (centred x y k)) holes.now }
-{
-    let mut place = 0;
-    for other in holes {
-        if other.is_at(x, y) {
-            return place;
+        if !bolt.suits(hole) {
+            return Err(Fault::DiameterOutside);
         }
-        place += 1;
+        if !bar.has_place_for(hole) {
+            return Err(Fault::CentreOutside);
+        }
+        match self.crowding_place(hole, bolt.size.diameter()) {
+            Some(place) => Err(Fault::TooClose {
+                hole: place as u8 + 1,
+            }),
+            None => Ok(()),
+        }
     }
-    place
-}
 
-pub(crate) fn without_hole(mut holes: [Hole; 32], count: usize, place: usize) -> [Hole; 32]
-    requires few { count ≤ 32 }
-    requires within { place < count }
-    ensures long { length result ≡ 32 }
-    ensures row { take (count - 1) result ≡ take place (take count holes) ++ drop (place + 1) (take count holes) }
-{
-    let moved = &mut holes[place..count];
-    moved.rotate_left(1);
-    holes
+    // How many holes come before this one.
+    fn place_of(&self, hole: &Hole) -> usize
+        ensures within { result ≤ length (holes_of self.now) }
+        ensures value { result ≡ prefix_len (λ k. before k hole.now) (holes_of self.now) }
+    {
+        self.as_slice()
+            .iter()
+            .take_while(|other| other.is_before(hole))
+            .count()
+    }
+
+    // The row with one hole more, after those that come before it.
+    pub(crate) fn with(self, hole: Hole) -> Row
+        requires { length (holes_of self) < 32 }
+        ensures { holes_of result ≡ add hole (holes_of self) }
+    {
+        let place = self.place_of(&hole);
+        let Row { count, mut holes } = self;
+        holes[count] = hole;
+        holes[place..=count].rotate_right(1);
+        Row {
+            count: count + 1,
+            holes,
+        }
+    }
+
+    // The place of the hole whose centre is there.
+    pub(crate) fn place_at(&self, x: u32, y: u32) -> Option<usize>
+        ensures { result ≡ position (centred x y) (holes_of self.now) }
+    {
+        self.as_slice().iter().position(|hole| hole.is_at(x, y))
+    }
+
+    // The row without the hole at a place.
+    pub(crate) fn without(self, place: usize) -> Row
+        requires { place < length (holes_of self) }
+        ensures { holes_of result ≡ remove (holes_of self) place }
+    {
+        let Row { count, mut holes } = self;
+        holes[place..count].rotate_left(1);
+        Row {
+            count: count - 1,
+            holes,
+        }
+    }
 }

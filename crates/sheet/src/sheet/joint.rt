@@ -10,5 +10,5 @@ pub struct Joint<'a> {
     sheet: &'a Sheet,
     ghost barred: { is_some sheet.now.bar ≡ true },
     ghost bolted: { is_some sheet.now.bolt ≡ true },
-    ghost some: { 0 < sheet.now.count },
+    ghost some: { 0 < sheet.now.row.count },
 }

@@ -7,7 +7,7 @@ ghost use Rattle.sheet.specs.Numbering.{Joins, Leaves};
 
 use super::Sheet;
 use super::closed::Closed;
-use crate::row::{with_hole, without_hole};
+use crate::row::Row;
 use parts::bar::Bar;
 use parts::bolt::{Bolt, Size};
 use parts::fault::Fault;
@@ -21,12 +21,6 @@ pub struct Open {
     pub(crate) sheet: Sheet,
 }
 
-const NO_HOLE: Hole = Hole {
-    x: 0,
-    y: 0,
-    diameter: 0,
-};
-
 impl Open {
     // A new sheet: without bar, bolt and holes, all loads 0.
     pub fn new() -> Open
@@ -36,9 +30,8 @@ impl Open {
             sheet: Sheet {
                 bar: None,
                 bolt: None,
-                holes: [NO_HOLE; 32],
-                count: 0,
                 loads: [0; 7],
+                row: Row::new(),
             },
         }
     }
@@ -62,9 +55,8 @@ impl Open {
         self.sheet = Sheet {
             bar: Some(bar),
             bolt: self.sheet.bolt,
-            holes: self.sheet.holes,
-            count: self.sheet.count,
             loads: self.sheet.loads,
+            row: self.sheet.row,
         };
         Ok(())
     }
@@ -87,9 +79,8 @@ impl Open {
         self.sheet = Sheet {
             bar: self.sheet.bar,
             bolt: Some(bolt),
-            holes: self.sheet.holes,
-            count: self.sheet.count,
             loads: self.sheet.loads,
+            row: self.sheet.row,
         };
         Ok(())
     }
@@ -100,15 +91,12 @@ impl Open {
         ensures joins { result ≡ Ok tt → Joins (hole_at x y diameter) (open_account self.old).holes (open_account self.new).holes }
     {
         let hole = Hole { x, y, diameter };
-        if let Some(fault) = self.sheet.put_fault(&hole) {
-            return Err(fault);
-        }
+        self.sheet.accepts(&hole)?;
         self.sheet = Sheet {
             bar: self.sheet.bar,
             bolt: self.sheet.bolt,
-            holes: with_hole(self.sheet.holes, self.sheet.count, hole),
-            count: self.sheet.count + 1,
             loads: self.sheet.loads,
+            row: self.sheet.row.with(hole),
         };
         Ok(())
     }
@@ -117,15 +105,12 @@ impl Open {
         ensures settled { Takes (open_account self.old) x y result (open_account self.new) }
         ensures leaves { result ≡ Ok tt → Leaves x y (open_account self.old).holes (open_account self.new).holes }
     {
-        let Some(place) = self.sheet.find(x, y) else {
-            return Err(Fault::NoHoleThere);
-        };
+        let place = self.sheet.row.place_at(x, y).ok_or(Fault::NoHoleThere)?;
         self.sheet = Sheet {
             bar: self.sheet.bar,
             bolt: self.sheet.bolt,
-            holes: without_hole(self.sheet.holes, self.sheet.count, place),
-            count: self.sheet.count - 1,
             loads: self.sheet.loads,
+            row: self.sheet.row.without(place),
         };
         Ok(())
     }
@@ -134,7 +119,7 @@ impl Open {
         ensures { Loads (open_account self.old) letter newtons result (open_account self.new) }
     {
         let kind = LoadKind::try_from(letter)?;
-        if newtons < -10_000_000 || newtons > 10_000_000 {
+        if !(-10_000_000..=10_000_000).contains(&newtons) {
             return Err(Fault::LoadOutOfRange);
         }
         let mut loads = self.sheet.loads;
@@ -142,9 +127,8 @@ impl Open {
         self.sheet = Sheet {
             bar: self.sheet.bar,
             bolt: self.sheet.bolt,
-            holes: self.sheet.holes,
-            count: self.sheet.count,
             loads,
+            row: self.sheet.row,
         };
         Ok(())
     }

@@ -11,6 +11,7 @@ use parts::fault::Fault;
 use parts::hole::Hole;
 
 impl<'a> Joint<'a> {
+    // Not a conversion: a joint looks at the sheet, which stays.
     pub fn of(sheet: &'a Sheet) -> Result<Joint<'a>, Fault>
         ensures { JointOf (account sheet.now) result }
     {
