@@ -1,5 +1,5 @@
-use Rattle.std.proofs.Common.{◌+◌, length, take, ap, ◌∙◌, arith}
-use Rattle.sheet.specs.Kept.{open_account}
+use Rattle.std.proofs.Common.{◌+◌, length, ap, ◌∙◌, arith}
+use Rattle.sheet.specs.Kept.{account, open_account}
 use Rattle.archive.proofs.Laying.{accepted_within}
 use Rattle.archive.proofs.check.sheet_of.Goals as goal
 
@@ -12,5 +12,5 @@ returns-then-taken-text c =
       a,
       ok,
       omega (arith, c.if-taken-text.true),
-      ap (λ hs. length hs + 14) (c.row.ensures ∙ ap (λ s. take s.count s.holes) c.sheet.ensures),
+      ap (λ hs. length hs + 14) (c.row.ensures ∙ ap (λ s. (account s).holes) c.sheet.ensures),
     )
