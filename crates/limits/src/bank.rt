@@ -26,13 +26,13 @@ pub trait Bank {
 pub struct Only<L>(pub L);
 
 impl<L: LimitState> Bank for Only<L> {
-    ghost rated = { λ b d. rating L.LimitState.number (L.LimitState.meaning b.0 d) ∷ [] };
+    ghost rated = { λ b d. rating L.LimitState.NUMBER.value (L.LimitState.meaning b.0 d) ∷ [] };
 
     ghost lawful = { Prim.search rules };
 
     fn weakest(&self, joint: Joint<'_>) -> Rated {
         Rated {
-            number: L::named().value,
+            number: L::NUMBER.value,
             strength: self.0.strength(joint),
         }
     }

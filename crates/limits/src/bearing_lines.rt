@@ -4,7 +4,7 @@ ghost use Rattle.parts.specs.Sizes.{diameter_of};
 ghost use Rattle.sheet.specs.Details.{details};
 ghost use Rattle.limits.specs.Bearing.{bearing_length, lines, Lined};
 ghost use Rattle.limits.specs.Strengths.{bearing};
-ghost use Rattle.std.proofs.Common.{mul-le-mul, arith, rules};
+ghost use Rattle.std.proofs.Common.{lit≤, mul-le-mul, arith};
 ghost use Rattle.limits.specs.Bounds.{tensile_most};
 ghost use Rattle.limits.specs.Walk.{bearing_most};
 
@@ -37,19 +37,11 @@ impl BearingLines {
 impl LimitState for BearingLines {
     const NUMBER: Number = Number { value: 4 };
 
-    ghost number = { 4 };
+    ghost NUMBER = { record { value = 4; low = lit≤ tt; high = lit≤ tt } };
 
     ghost meaning = { λ _ d. bearing d };
 
-    ghost lowest = { Prim.search rules };
-
-    ghost highest = { Prim.search rules };
-
     ghost moderate = { λ x d w. omega (arith, mul-le-mul (tensile_most d.bar.steel) (mul-le-mul w.thickness.1 (bearing_most d w))) };
-
-    fn named() -> Number {
-        Self::NUMBER
-    }
 
     fn strength(&self, joint: Joint<'_>) -> Decinewtons {
         let bar = joint.bar();

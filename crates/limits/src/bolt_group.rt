@@ -1,6 +1,6 @@
 // Bolt shear (Section 10.3.6 of the norm): the bolts are cut in their shear planes.
 ghost use Rattle.limits.specs.Strengths.{bolt_shear};
-ghost use Rattle.std.proofs.Common.{mul-le-mul, arith, rules};
+ghost use Rattle.std.proofs.Common.{lit≤, mul-le-mul, arith};
 ghost use Rattle.limits.specs.Bounds.{area_most};
 
 use crate::limit_state::LimitState;
@@ -14,21 +14,13 @@ pub struct BoltGroup;
 impl LimitState for BoltGroup {
     const NUMBER: Number = Number { value: 3 };
 
-    ghost number = { 3 };
+    ghost NUMBER = { record { value = 3; low = lit≤ tt; high = lit≤ tt } };
 
     ghost meaning = { λ _ d. bolt_shear d };
-
-    ghost lowest = { Prim.search rules };
-
-    ghost highest = { Prim.search rules };
 
     ghost moderate = { λ x d w.
         let planes = mul-le-mul w.few w.planes.1 in
         omega (arith, mul-le-mul w.stress.1 (mul-le-mul (area_most d.bolt.size) planes)) };
-
-    fn named() -> Number {
-        Self::NUMBER
-    }
 
     fn strength(&self, joint: Joint<'_>) -> Decinewtons {
         let bolt = joint.bolt();

@@ -1,7 +1,7 @@
 // Net rupture (Chapter 4 of the norm): the bar tears along its least chain of holes.
 ghost use Rattle.std.specs.Prelude.{◌≡◌};
 ghost use Rattle.limits.specs.Strengths.{counted, net_rupture};
-ghost use Rattle.std.proofs.Common.{mul-le-mul, arith, rules};
+ghost use Rattle.std.proofs.Common.{lit≤, mul-le-mul, arith};
 ghost use Rattle.limits.specs.Bounds.{tensile_most};
 ghost use Rattle.limits.specs.Rupture.{net_most};
 
@@ -24,19 +24,11 @@ fn counted_width(width: Micrometres) -> u64
 impl LimitState for ChainSearch {
     const NUMBER: Number = Number { value: 2 };
 
-    ghost number = { 2 };
+    ghost NUMBER = { record { value = 2; low = lit≤ tt; high = lit≤ tt } };
 
     ghost meaning = { λ _ d. net_rupture d };
 
-    ghost lowest = { Prim.search rules };
-
-    ghost highest = { Prim.search rules };
-
     ghost moderate = { λ x d w. omega (arith, mul-le-mul (tensile_most d.bar.steel) (mul-le-mul (net_most d w) w.thickness.1)) };
-
-    fn named() -> Number {
-        Self::NUMBER
-    }
 
     fn strength(&self, joint: Joint<'_>) -> Decinewtons {
         let bar = joint.bar();

@@ -1,6 +1,6 @@
 // Gross yielding (Chapter 4 of the norm): the bar yields across its whole section.
 ghost use Rattle.limits.specs.Strengths.{gross_yielding};
-ghost use Rattle.std.proofs.Common.{mul-le-mul, arith, rules};
+ghost use Rattle.std.proofs.Common.{lit≤, mul-le-mul, arith};
 ghost use Rattle.limits.specs.Bounds.{yield_most};
 
 use crate::limit_state::LimitState;
@@ -14,19 +14,11 @@ pub struct GrossYielding;
 impl LimitState for GrossYielding {
     const NUMBER: Number = Number { value: 1 };
 
-    ghost number = { 1 };
+    ghost NUMBER = { record { value = 1; low = lit≤ tt; high = lit≤ tt } };
 
     ghost meaning = { λ _ d. gross_yielding d };
 
-    ghost lowest = { Prim.search rules };
-
-    ghost highest = { Prim.search rules };
-
     ghost moderate = { λ x d w. omega (arith, mul-le-mul (yield_most d.bar.steel) (mul-le-mul w.width.1 w.thickness.1)) };
-
-    fn named() -> Number {
-        Self::NUMBER
-    }
 
     fn strength(&self, joint: Joint<'_>) -> Decinewtons {
         let bar = joint.bar();

@@ -2,7 +2,7 @@
 #![tactic(auto)]
 
 ghost use Rattle.std.specs.Prelude.{◌*◌};
-ghost use Rattle.std.proofs.Common.{rules};
+ghost use Rattle.std.proofs.Common.{lit≤, rules};
 
 use limits::limit_state::LimitState;
 use limits::number::Number;
@@ -16,19 +16,11 @@ pub struct PerWidth;
 impl LimitState for PerWidth {
     const NUMBER: Number = Number { value: 77 };
 
-    ghost number = { 77 };
+    ghost NUMBER = { record { value = 77; low = lit≤ tt; high = lit≤ tt } };
 
     ghost meaning = { λ _ d. 500 * d.bar.width };
 
-    ghost lowest = { Prim.search rules };
-
-    ghost highest = { Prim.search rules };
-
     ghost moderate = { Prim.search rules };
-
-    fn named() -> Number {
-        Self::NUMBER
-    }
 
     fn strength(&self, joint: Joint<'_>) -> Decinewtons {
         Decinewtons(500 * joint.bar().width as i64)
