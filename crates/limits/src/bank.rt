@@ -10,6 +10,7 @@ ghost use Rattle.std.proofs.ByRecursion.{All-append};
 use crate::limit_state::LimitState;
 use crate::rated::Rated;
 use sheet::Joint;
+use std::cmp::min_by_key;
 
 pub trait Bank {
     // Every limit state in it, in order, with its strength.
@@ -43,11 +44,7 @@ fn weaker(first: Rated, second: Rated) -> Rated
     ensures first { strength_of first ≤ℤ strength_of second → result ≡ first }
     ensures second { strength_of second <ℤ strength_of first → result ≡ second }
 {
-    if second.strength < first.strength {
-        second
-    } else {
-        first
-    }
+    min_by_key(first, second, |rated| rated.strength)
 }
 
 #[derive(Drop)]
