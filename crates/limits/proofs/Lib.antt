@@ -1,3 +1,5 @@
 pub mod First
 pub mod Weakest
-pub mod BearingForce
+pub mod Forces
+pub mod Neighbours
+pub mod Lines

@@ -1,8 +1,8 @@
 -- Lines of holes, and the lengths on which a line's bolts bear, in tenths of a millimetre.
-use Rattle.std.specs.Prelude.{◌≡◌, ℕ, ◌-◌, ◌*◌, ◌<◌, ◌≤◌, min, Bool, true, cond, ◌&&◌, List, [], ◌∷◌, map, length, replicate, sum_by, sum, ◌==◌, nat_le}
-use Rattle.std.specs.List.{flat_map, AllByRecursion}
+use Rattle.std.specs.Prelude.{◌≡◌, ℕ, ◌-◌, ◌*◌, ◌<◌, ◌≤◌, min, Bool, cond, ◌&&◌, List, [], ◌∷◌, map, length, drop, replicate, sum_by, sum, ◌==◌, nat_le, slice_index_or}
+use Rattle.std.specs.List.{flat_map, list_all, AllByRecursion, AllAdjacentBelow}
 use Rattle.parts.specs.declared.hole.Hole.{Hole}
-use Rattle.limits.specs.declared.line.HoleLine.{HoleLine}
+use Rattle.sheet.specs.Details.{no_hole}
 
 -- holes of equal y: the nearest to the bolted end, and the others
 pub record Line : Type 0 where
@@ -13,9 +13,9 @@ pub record Line : Type 0 where
 abbrev pub members : Line → List Hole
 members l = l.first ∷ l.others
 
--- the line that the code holds
-abbrev pub line_of : HoleLine → Line
-line_of l = record { first = l.first; others = l.others.now }
+-- the line of these holes
+abbrev pub line_of : List Hole → Line
+line_of hs = record { first = slice_index_or hs 0 no_hole; others = drop 1 hs }
 
 -- a hole before lines: in the first of them where that has its y, else in a line of its own
 abbrev pub join : Hole → List Line → List Line
@@ -33,15 +33,10 @@ abbrev pub spacings : Hole → List Hole → List ℕ
 spacings h [] = []
 spacings h (k ∷ ks) = (k.x - h.x) ∷ spacings k ks
 
--- none of them is below n
-abbrev pub each_at_least : ℕ → List ℕ → Bool
-each_at_least n [] = true
-each_at_least n (s ∷ ss) = nat_le n s && each_at_least n ss
-
 -- two or more holes, the first 1.5 diameters or more from the end, the spacings 3 or more
 abbrev pub roomy : ℕ → Line → Bool
 roomy d l =
-    nat_le 1 (length l.others) && (nat_le (3 * d) (2 * l.first.x) && each_at_least (3 * d) (spacings l.first l.others))
+    nat_le 1 (length l.others) && (nat_le (3 * d) (2 * l.first.x) && list_all (nat_le (3 * d)) (spacings l.first l.others))
 
 -- the first hole's x, and each spacing less half a diameter; none above 2.4 diameters
 abbrev pub clear_lengths : ℕ → Line → List ℕ
@@ -67,6 +62,13 @@ pub record Next (d : ℕ) (a b : Hole) : Type 0 where
   pub level : a.y ≡ b.y
   pub beyond : a.x < b.x
   pub apart : 8 * d ≤ 3 * (b.x - a.x)
+
+-- holes in line, for bolts of diameter d: some, as many as a joint may have, each well beyond the one before
+pub record InLine (d : ℕ) (hs : List Hole) : Type 0 where
+  pub some : 0 < length hs
+  pub few : length hs ≤ 32
+  pub small : d ≤ 24
+  pub rising : AllAdjacentBelow (Next d) hs (length hs)
 
 -- the lines put together are the holes; along a line y is equal and x rises; from line to line y rises
 pub record Lined (d : ℕ) (hs : List Hole) (ls : List Line) : Type 0 where

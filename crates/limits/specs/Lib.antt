@@ -4,7 +4,3 @@ pub mod Strengths
 pub mod Bearing
 pub mod Norm
 pub mod Bounds
-pub mod Walk
-pub mod Lines
-pub mod Spacings
-pub mod Rupture

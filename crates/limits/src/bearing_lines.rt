@@ -5,8 +5,7 @@ ghost use Rattle.sheet.specs.Details.{details};
 ghost use Rattle.limits.specs.Bearing.{bearing_length, lines, Lined};
 ghost use Rattle.limits.specs.Strengths.{bearing};
 ghost use Rattle.std.proofs.Common.{lit≤, mul-le-mul, arith};
-ghost use Rattle.limits.specs.Bounds.{tensile_most};
-ghost use Rattle.limits.specs.Walk.{bearing_most};
+ghost use Rattle.limits.specs.Bounds.{tensile_most, bearing_most};
 
 use crate::limit_state::LimitState;
 use crate::line::HoleLine;
@@ -24,13 +23,11 @@ impl BearingLines {
         ensures lined { Lined (diameter_of (details joint.entry).bolt.size) (details joint.entry).holes (lines (details joint.entry).holes) }
     {
         let diameter = joint.bolt().size.diameter();
-        let mut sum = 0;
-        let mut rest = joint.holes();
-        while let Some(line) = HoleLine::first_of(rest) {
-            sum += line.bearing_length(diameter);
-            rest = &rest[line.len()..];
-        }
-        sum
+        joint
+            .holes()
+            .chunk_by(|hole, next| hole.y == next.y)
+            .map(|holes| HoleLine::of(holes, diameter).bearing_length())
+            .sum()
     }
 }
 
@@ -45,7 +42,7 @@ impl LimitState for BearingLines {
 
     fn strength(&self, joint: Joint<'_>) -> Decinewtons {
         let bar = joint.bar();
-        let area = bar.thickness as u64 * BearingLines::length(joint);
+        let area = BearingLines::length(joint) * bar.thickness as u64;
         let force = bar.steel.tensile_stress().0 as u64 * area;
         Decinewtons((3 * force / 4) as i64)
     }

@@ -2,8 +2,7 @@
 ghost use Rattle.std.specs.Prelude.{◌≡◌};
 ghost use Rattle.limits.specs.Strengths.{counted, net_rupture};
 ghost use Rattle.std.proofs.Common.{lit≤, mul-le-mul, arith};
-ghost use Rattle.limits.specs.Bounds.{tensile_most};
-ghost use Rattle.limits.specs.Rupture.{net_most};
+ghost use Rattle.limits.specs.Bounds.{tensile_most, net_most};
 
 use crate::limit_state::LimitState;
 use crate::number::Number;

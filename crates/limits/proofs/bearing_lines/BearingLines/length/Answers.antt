@@ -1,49 +1,50 @@
-use Rattle.std.proofs.Common.{◌≤◌, ap, ◌∙◌, arith, rules}
+use Rattle.std.proofs.Common.{◌≡◌, sum, map, ap, ◌∙◌, arith, rules, of_calls}
+use Rattle.std.specs.Slice.Iter.{chunk_by_rest}
+use Rattle.std.proofs.iter.Serving.{same}
+use Rattle.std.proofs.lemmas.Iterator.{YieldsList-from_map}
+use Rattle.std.proofs.lemmas.Iterator.Consumers.{fits_by_from_yields_list, sum_by_from_yields_List}
+use Rattle.std.proofs.lemmas.List.Sorted.{answers_always}
 use Rattle.parts.specs.Sizes.{diameter_of}
 use Rattle.sheet.specs.Details.{details}
 use Rattle.sheet.proofs.Joints.{joint_sound}
-use Rattle.limits.specs.Bearing.{line_of}
-use Rattle.limits.specs.Bounds.{diameter_most}
-use Rattle.limits.specs.Lines.{sound_lined}
-use Rattle.limits.specs.Walk.{walk_begins, walk_line, walk_few, walk_fits, walk_within, walk_on, walk_ends}
+use Rattle.limits.specs.Bearing.{members, line_of, lines, lengths, bearing_length}
+use Rattle.limits.specs.Bounds.{bearing_most}
+use Rattle.limits.proofs.Lines.{YieldsList-from_chunks, chunk_in_line, parts_sum, sound_lined}
 use Rattle.limits.proofs.bearing_lines.BearingLines.length.Goals as goal
 
-pub loop-line-init : goal.loop-line-init
-loop-line-init c =
-    walk_begins (details c.args.joint) _ _ (joint_sound c.args.joint)
-    (c.diameter-diameter.ensures ∙ ap (λ b. diameter_of b.size) c.bolt.ensures) c.holes-rest.ensures
+pub sum-requires-clause-can : goal.sum-requires-clause-can
+sum-requires-clause-can c =
+    let d = details c.args.joint in
+    let size : c.diameter-diameter.result ≡ diameter_of d.bolt.size = c.diameter-diameter.ensures ∙ ap (λ b. diameter_of b.size) c.bolt.ensures in
+    let rest = ap chunk_by_rest c.map.ensures.source ∙ c.chunk_by.ensures.rest ∙ c.holes.ensures in (
+      search of_calls,
+      record {
+        at = λ xs t q x u y f st.
+            let same_diameter = ap (λ p. p.0.now) (same _ (λ p v r k. search rules) xs _ q f ∙ c.map.ensures.closure) in
+            let in_line = chunk_in_line d (joint_sound c.args.joint) _ q.0.now (same_diameter ∙ size) _ t u xs x (answers_always _ _ _ (λ f a r f' k. search rules)) rest y st in
+            search (rules, in_line);
+      },
+    )
 
-pub bearing_length-sum-requires : goal.bearing_length-sum-requires
-bearing_length-sum-requires c = record {
-  small = omega (arith, c.diameter-diameter.ensures, diameter_most c.bolt.result.size);
-  few = walk_few _ _ _ _ (line_of c.in-Some.line) c.loop-line.invariant c.in-Some.ensures;
-  rising = walk_line _ _ _ _ (line_of c.in-Some.line) c.loop-line.invariant c.in-Some.ensures;
-}
+pub sum-requires-clause-fits : goal.sum-requires-clause-fits
+sum-requires-clause-fits c =
+    let d = details c.args.joint in
+    let n = c.diameter-diameter.result in
+    let size : n ≡ diameter_of d.bolt.size = c.diameter-diameter.ensures ∙ ap (λ b. diameter_of b.size) c.bolt.ensures in
+    let rest = ap chunk_by_rest c.map.ensures.source ∙ c.chunk_by.ensures.rest ∙ c.holes.ensures in
+    fits_by_from_yields_list (λ hs. sum (lengths n (line_of hs))) (map members (lines d.holes)) c.map.result _
+    (YieldsList-from_map _ (λ hs. sum (lengths n (line_of hs))) (YieldsList-from_chunks _ d.holes (answers_always _ _ _ (λ f a r f' k. search rules)) rest) c.map.ensures.closure (λ x r q k. search rules))
+    (omega (arith, parts_sum n d.holes, ap (λ m. bearing_length m d.holes) size, bearing_most d (joint_sound c.args.joint)))
 
-pub overflow_add-sum : goal.overflow_add-sum
-overflow_add-sum c =
-    let small : c.diameter-diameter.result ≤ 24 = omega (arith, c.diameter-diameter.ensures, diameter_most c.bolt.result.size) in
-    omega (arith, walk_fits _ _ _ _ (line_of c.in-Some.line) c.loop-line.invariant c.in-Some.ensures _ small c.bearing_length-sum.ensures)
+pub returns-clause-sum : goal.returns-clause-sum
+returns-clause-sum c =
+    let d = details c.args.joint in
+    let n = c.diameter-diameter.result in
+    let size : n ≡ diameter_of d.bolt.size = c.diameter-diameter.ensures ∙ ap (λ b. diameter_of b.size) c.bolt.ensures in
+    let rest = ap chunk_by_rest c.map.ensures.source ∙ c.chunk_by.ensures.rest ∙ c.holes.ensures in
+    sum_by_from_yields_List (λ hs. sum (lengths n (line_of hs))) (map members (lines d.holes)) c.map.result _ c.sum.ensures.ran
+    (YieldsList-from_map _ (λ hs. sum (lengths n (line_of hs))) (YieldsList-from_chunks _ d.holes (answers_always _ _ _ (λ f a r f' k. search rules)) rest) c.map.ensures.closure (λ x r q k. search rules))
+    ∙ parts_sum n d.holes ∙ ap (λ m. bearing_length m d.holes) size
 
-pub len-requires : goal.len-requires
-len-requires c = walk_few _ _ _ _ (line_of c.in-Some.line) c.loop-line.invariant c.in-Some.ensures
-
-pub slice_bounds-rest-count : goal.slice_bounds-rest-count
-slice_bounds-rest-count c = omega (arith, walk_within _ _ _ _ (line_of c.in-Some.line) c.loop-line.invariant c.in-Some.ensures, c.len.ensures)
-
-pub slice_bounds-rest-start : goal.slice_bounds-rest-start
-slice_bounds-rest-start c =
-    let within = walk_within _ _ _ _ (line_of c.in-Some.line) c.loop-line.invariant c.in-Some.ensures in
-    search rules
-
-pub loop-line-preserved : goal.loop-line-preserved
-loop-line-preserved c =
-    let small : c.diameter-diameter.result ≤ 24 = omega (arith, c.diameter-diameter.ensures, diameter_most c.bolt.result.size) in
-    walk_on _ _ _ _ (line_of c.in-Some.line) c.loop-line.invariant c.in-Some.ensures _ _ small c.len.ensures c.bearing_length-sum.ensures
-
-pub returns : goal.returns
-returns c = record {
-  sum = walk_ends _ _ _ _ _ _ c.loop-line.invariant c.in_default.ensures
-      (c.diameter-diameter.ensures ∙ ap (λ b. diameter_of b.size) c.bolt.ensures) c.holes-rest.ensures;
-  lined = sound_lined (details c.args.joint) (joint_sound c.args.joint);
-}
+pub returns-clause-lined : goal.returns-clause-lined
+returns-clause-lined c = sound_lined (details c.args.joint) (joint_sound c.args.joint)
