@@ -12,6 +12,14 @@ use Rattle.parts.specs.LoadKinds.{letter_of, kind_number}
 use Rattle.parts.specs.Sizes.{size_name}
 use Rattle.parts.specs.Steels.{steel_name}
 use Rattle.text.specs.Words.{line, header}
+use Rattle.sections.specs.declared.line.Piece.{Piece}
+use Rattle.sections.specs.declared.line.Piece.TheVariants.{Number, Signed, Word}
+
+-- inner: a piece of a line, as it is written
+abbrev pub spelled : Piece → List ℕ
+spelled (Number n) = decimal n
+spelled (Signed z) = signed_decimal z
+spelled (Word w) = w.now
 
 -- width, thickness, steel, edge
 abbrev pub bar_words : Bar → List (List ℕ)
