@@ -1,25 +1,29 @@
 -- The first line of each section.
 use Rattle.std.proofs.Common.{◌≡◌, ℕ, ◌+◌, List, [], ◌∷◌, length, Ok, codes, decimal, refl, subst, inr, arith}
-use Rattle.sheet.specs.Account.{Account}
 use Rattle.text.specs.declared.cursor.Cursor.{Cursor}
 use Rattle.reading.specs.Beginnings.{nothing, bar_named, barred, bolt_named, bolted, holing, loading}
 use Rattle.reading.specs.Fields.{Passed, HeaderRead}
 use Rattle.reading.specs.LineFaults.{HeaderFault}
 use Rattle.reading.specs.Stages.{Leads, at_start, at_bar, with_bar, at_bolt, with_bolt, with_holes, drilled, at_loads}
 use Rattle.reading.specs.declared.fault.ReadFault.{ReadFault}
+use Rattle.reading.specs.declared.reader.Reader.{Reader}
 use Rattle.reading.proofs.Forward.{next, faulty_line, Fails}
 
 counted : {was now : Cursor} (n k : ℕ) (name : List ℕ) → n ≡ k → Passed was (decimal n ∷ name ∷ []) now → Passed was (decimal k ∷ name ∷ []) now
 counted {was} {now} n k name e p = subst (λ (m : ℕ). Passed was (decimal m ∷ name ∷ []) now) e p
 
-module _ {was mid : Cursor} (a : Account) where
-  pub bar_headed : (n : ℕ) → HeaderRead was (codes "bar") 1 1 (Ok n) mid → Leads at_start at_bar was a (Ok tt) mid a
+-- the reader past that line
+abbrev pub past : Reader → Cursor → Reader
+past was mid = record { cursor = mid; sheet = was.sheet }
+
+module _ (was : Reader) {mid : Cursor} where
+  pub bar_headed : (n : ℕ) → HeaderRead was.cursor (codes "bar") 1 1 (Ok n) mid → Leads at_start at_bar was (Ok tt) (past was mid)
   bar_headed n h = record { goes = λ text u at. (tt, next nothing bar_named at (counted n 1 (codes "bar") (omega arith) h.0) refl tt at.account) }
 
-  pub bolt_headed : (n : ℕ) → HeaderRead was (codes "bolt") 1 1 (Ok n) mid → Leads with_bar at_bolt was a (Ok tt) mid a
+  pub bolt_headed : (n : ℕ) → HeaderRead was.cursor (codes "bolt") 1 1 (Ok n) mid → Leads with_bar at_bolt was (Ok tt) (past was mid)
   bolt_headed n h = record { goes = λ text b at. (b, next (barred b) (bolt_named b) at (counted n 1 (codes "bolt") (omega arith) h.0) refl at.lawful at.account) }
 
-  pub holes_headed : (n : ℕ) → HeaderRead was (codes "holes") 0 32 (Ok n) mid → Leads with_bolt (with_holes n 0) was a (Ok tt) mid a
+  pub holes_headed : (n : ℕ) → HeaderRead was.cursor (codes "holes") 0 32 (Ok n) mid → Leads with_bolt (with_holes n 0) was (Ok tt) (past was mid)
   holes_headed n h = record {
     goes = λ text p at. (
       record { bar = p.0; bolt = p.1; holes = []; many = refl },
@@ -27,7 +31,7 @@ module _ {was mid : Cursor} (a : Account) where
     );
   }
 
-  pub loads_headed : (n : ℕ) → HeaderRead was (codes "loads") 7 7 (Ok n) mid → Leads drilled at_loads was a (Ok tt) mid a
+  pub loads_headed : (n : ℕ) → HeaderRead was.cursor (codes "loads") 7 7 (Ok n) mid → Leads drilled at_loads was (Ok tt) (past was mid)
   loads_headed n h = record {
     goes = λ text p at.
         let l = at.lawful in (
@@ -37,15 +41,15 @@ module _ {was mid : Cursor} (a : Account) where
         );
   }
 
-module _ {was : Cursor} (a : Account) where
-  pub bar_misheaded : (e : ReadFault) → (e.line ≡ was.line + 1) × HeaderFault (codes "bar") 1 1 was.rest.now e.cause → Fails at_start was a e
+module _ {was : Reader} where
+  pub bar_misheaded : (e : ReadFault) → (e.line ≡ was.cursor.line + 1) × HeaderFault (codes "bar") 1 1 was.cursor.rest.now e.cause → Fails at_start was e
   bar_misheaded e h = record { faulty = λ text u at. faulty_line nothing at h.0 h.1 }
 
-  pub bolt_misheaded : (e : ReadFault) → (e.line ≡ was.line + 1) × HeaderFault (codes "bolt") 1 1 was.rest.now e.cause → Fails with_bar was a e
+  pub bolt_misheaded : (e : ReadFault) → (e.line ≡ was.cursor.line + 1) × HeaderFault (codes "bolt") 1 1 was.cursor.rest.now e.cause → Fails with_bar was e
   bolt_misheaded e h = record { faulty = λ text b at. faulty_line (barred b) at h.0 h.1 }
 
-  pub holes_misheaded : (e : ReadFault) → (e.line ≡ was.line + 1) × HeaderFault (codes "holes") 0 32 was.rest.now e.cause → Fails with_bolt was a e
+  pub holes_misheaded : (e : ReadFault) → (e.line ≡ was.cursor.line + 1) × HeaderFault (codes "holes") 0 32 was.cursor.rest.now e.cause → Fails with_bolt was e
   holes_misheaded e h = record { faulty = λ text p at. faulty_line (bolted p.0 p.1) at h.0 h.1 }
 
-  pub loads_misheaded : (e : ReadFault) → (e.line ≡ was.line + 1) × HeaderFault (codes "loads") 7 7 was.rest.now e.cause → Fails drilled was a e
+  pub loads_misheaded : (e : ReadFault) → (e.line ≡ was.cursor.line + 1) × HeaderFault (codes "loads") 7 7 was.cursor.rest.now e.cause → Fails drilled was e
   loads_misheaded e h = record { faulty = λ text p at. faulty_line (holing p.0 p.1 (length p.2) p.2) at h.0 (inr (refl, h.1)) }

@@ -1,11 +1,7 @@
 -- Each load has its own letter and number, and a page marks the letters that stood.
-use Rattle.std.proofs.Common.{◌≡◌, ℕ, ◌<◌, Bool, true, false, ◌⊎◌, List, [], ◌∷◌, length, get_or, set, ℤ, Some, None, codes, Option, sym, refl, ap, ◌∙◌, subst, inl, inr, ⊎_elim, arith, length-set, MatchOption}
-use Rattle.std.specs.Result.{result_ok}
-use Rattle.std.specs.Option.{ok_or}
-use Rattle.parts.specs.declared.fault.Fault.TheVariants.{UnknownLoad}
+use Rattle.std.proofs.Common.{◌≡◌, ℕ, ◌<◌, Bool, true, false, ◌⊎◌, List, [], ◌∷◌, get_or, set, ℤ, Some, codes, sym, refl, ap, ◌∙◌, subst, inl, inr, ⊎_elim, arith, length-set}
 use Rattle.std.proofs.lemmas.List.{get_or-set_same, get_or-set_other}
 use Rattle.std.proofs.lemmas.Bool.{both_ways, cases_eq}
-use Rattle.std.proofs.lemmas.Bool.Decides.{nat_tests}
 use Rattle.parts.specs.declared.load.LoadKind.{LoadKind}
 use Rattle.parts.specs.declared.load.LoadKind.TheVariants.{Dead, Live, RoofLive, Snow, Rain, Wind, Earthquake}
 use Rattle.parts.specs.LoadKinds.{letter_of, kind_number, kind_of}
@@ -32,36 +28,6 @@ letter_once j k e =
 
 pub names_once : {name : List ℕ} (j k : LoadKind) → Names name j → Names name k → j ≡ k
 names_once {name} j k p q = letter_once j k (cc)
-
--- a letter's load has that letter
-letter_by : (b : ℕ) (k : LoadKind) → kind_of b ≡ Some k → b ≡ letter_of k
-letter_by b Dead e = grind (arith, nat_tests)
-letter_by b Live e = grind (arith, nat_tests)
-letter_by b RoofLive e = grind (arith, nat_tests)
-letter_by b Snow e = grind (arith, nat_tests)
-letter_by b Rain e = grind (arith, nat_tests)
-letter_by b Wind e = grind (arith, nat_tests)
-letter_by b Earthquake e = grind (arith, nat_tests)
-
-one_byte : (w : List ℕ) → length w ≡ 1 → w ≡ get_or w 0 0 ∷ []
-one_byte [] e = absurd (omega arith)
-one_byte (x ∷ []) e = refl
-one_byte (x ∷ y ∷ w) e = absurd (omega arith)
-
--- no kind, where its letter is refused
-pub ok_again : (o : Option LoadKind) → result_ok (ok_or o UnknownLoad) ≡ o
-ok_again None = refl
-ok_again (Some k) = refl
-
--- the load that a word of one byte names
-pub kind_by : (w : List ℕ) (b : ℕ) (r : Option LoadKind) → length w ≡ 1 → b ≡ get_or w 0 0 → r ≡ kind_of b → MatchOption r ((k : LoadKind) → Names w k → ⊥) (Names w)
-kind_by w b None one is e = λ k named.
-    let p : b ≡ letter_of k = is ∙ ap (λ l. get_or l 0 0) named in
-    let q = kind_again k in
-    let s : kind_of b ≡ kind_of (letter_of k) = ap kind_of p in
-    let z : ◌≡◌ {A = ℕ} 0 1 = cc in
-    omega arith
-kind_by w b (Some k) one is e = one_byte w one ∙ ap (λ x. x ∷ []) (sym is ∙ letter_by b k (sym e))
 
 pub number_below : (k : LoadKind) → kind_number k < 7
 number_below Dead = omega arith

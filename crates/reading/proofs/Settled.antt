@@ -1,22 +1,15 @@
--- What a call of the sheet comes to, as a line of the page.
-use Rattle.std.proofs.Common.{◌≡◌, ℕ, Bool, true, false, cond, not, List, Some, None, Option, Result, sym, refl, subst, arith}
+-- What a call of the sheet comes to, by what it answered.
+use Rattle.std.proofs.Common.{◌≡◌, ℕ, Bool, true, false, cond, not, Ok, Err, Some, None, Option, Result, refl, arith}
 use Rattle.parts.specs.declared.fault.Fault.{Fault}
 use Rattle.sheet.specs.Account.{Account, Settled}
-use Rattle.text.specs.declared.cursor.Cursor.{Cursor}
-use Rattle.reading.specs.Beginnings.{Beginning}
-use Rattle.reading.specs.Fields.{told}
-use Rattle.reading.specs.Reads.{FaultyLine}
-use Rattle.reading.specs.Stages.{At, Goes}
-use Rattle.reading.specs.declared.fault.Cause.TheVariants.{Sheet}
 
--- accepted, or refused with the sheet's own fault
-pub settled_goes : {Y : Type 0} (text : List ℕ) (to : Y → Beginning) (fault : Option Fault) (old new : Account) (r : Result (Unit {0}) Fault) (on : ℕ) (now : Cursor) (e : Account)
-    → Settled fault old new r e
-    → (fault ≡ None → e ≡ new → (y : Y) × At text (to y) now e)
-    → ((f : Fault) → fault ≡ Some f → FaultyLine text (record { cause = Sheet f; line = on }))
-    → Goes text to (told r on) now e
-settled_goes text to None old new r on now e s good bad = subst (λ x. Goes text to (told x on) now e) (sym s.said) (good refl s.kept)
-settled_goes text to (Some f) old new r on now e s good bad = subst (λ x. Goes text to (told x on) now e) (sym s.said) (bad f refl)
+pub settled_ok : (fault : Option Fault) {old new now : Account} {r : Result (Unit {0}) Fault} {u : Unit {0}} → Settled fault old new r now → r ≡ Ok u → (fault ≡ None) × (now ≡ new)
+settled_ok None s is = (refl, s.kept)
+settled_ok (Some f) s is = absurd (let h = s.said in let z : ◌≡◌ {A = ℕ} 0 1 = cc in omega arith)
+
+pub settled_err : (fault : Option Fault) {old new now : Account} {r : Result (Unit {0}) Fault} {f : Fault} → Settled fault old new r now → r ≡ Err f → fault ≡ Some f
+settled_err None s is = absurd (let h = s.said in let z : ◌≡◌ {A = ℕ} 0 1 = cc in omega arith)
+settled_err (Some g) s is = let h = s.said in cc
 
 -- the last line of a table
 pub passed_last : (v : Bool) (f : Fault) → cond (not v) (Some f) None ≡ None → v ≡ true

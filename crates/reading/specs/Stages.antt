@@ -1,33 +1,43 @@
 -- Where the reading stands, and what each part of it answers. Only inner functions cite it.
-use Rattle.std.specs.Prelude.{◌≡◌, ℕ, ◌≤◌, Bool, true, false, List, [], ◌++◌, length, Ok, Err, Result, slice_index_or}
+use Rattle.std.specs.Prelude.{◌≡◌, ℕ, ◌+◌, ◌≤◌, Bool, true, false, List, [], ◌++◌, length, Ok, Err, Result, slice_index_or}
 use Rattle.parts.specs.declared.bar.Bar.{Bar}
 use Rattle.parts.specs.declared.bolt.Bolt.{Bolt}
 use Rattle.parts.specs.declared.hole.Hole.{Hole}
 use Rattle.parts.specs.declared.load.LoadKind.{LoadKind}
 use Rattle.parts.specs.LoadKinds.{kind_number}
 use Rattle.sections.specs.Texts.{Load}
-use Rattle.sheet.specs.Account.{Account}
-use Rattle.text.specs.declared.cursor.Cursor.{Cursor}
+use Rattle.sheet.specs.Kept.{open_account}
 use Rattle.reading.specs.Beginnings.{Beginning, nothing, bar_named, barred, bolt_named, bolted, holing, loading, lines, written, account_of, Fresh, Lawful}
 use Rattle.reading.specs.Reads.{FaultyLine}
+use Rattle.reading.specs.declared.fault.Cause.{Cause}
 use Rattle.reading.specs.declared.fault.ReadFault.{ReadFault}
+use Rattle.reading.specs.declared.reader.Reader.{Reader}
 
--- the cursor stands after this beginning of the text, whose lines are all good, and the sheet holds what they say
-pub record At (text : List ℕ) (b : Beginning) (c : Cursor) (a : Account) : Type 0 where
+-- the reader stands after this beginning of the text, whose lines are all good, and its sheet holds what they say
+pub record At (text : List ℕ) (b : Beginning) (r : Reader) : Type 0 where
   pub short : length text ≤ 4096
   pub lawful : Lawful b
-  pub is : text ≡ written b ++ c.rest.now
-  pub line : c.line ≡ length (lines b)
-  pub account : a ≡ account_of b
+  pub is : text ≡ written b ++ r.cursor.rest.now
+  pub line : r.cursor.line ≡ length (lines b)
+  pub account : open_account r.sheet ≡ account_of b
 
 -- some beginning of the stage is reached, or a line before that is the first faulty one
-abbrev pub Goes : {Y : Type 0} → List ℕ → (Y → Beginning) → Result (Unit {0}) ReadFault → Cursor → Account → Type 0
-Goes {Y} text to (Ok u) c a = (y : Y) × At text (to y) c a
-Goes text to (Err e) c a = FaultyLine text e
+abbrev pub Goes : {Y : Type 0} → List ℕ → (Y → Beginning) → Result (Unit {0}) ReadFault → Reader → Type 0
+Goes {Y} text to (Ok u) now = (y : Y) × At text (to y) now
+Goes text to (Err e) now = FaultyLine text e
 
 -- from any beginning of one stage to some beginning of another
-pub record Leads {X Y : Type 0} (from : X → Beginning) (to : Y → Beginning) (was : Cursor) (old : Account) (r : Result (Unit {0}) ReadFault) (now : Cursor) (new : Account) : Type 0 where
-  pub goes : (text : List ℕ) (x : X) → At text (from x) was old → Goes text to r now new
+pub record Leads {X Y : Type 0} (from : X → Beginning) (to : Y → Beginning) (was : Reader) (r : Result (Unit {0}) ReadFault) (now : Reader) : Type 0 where
+  pub goes : (text : List ℕ) (x : X) → At text (from x) was → Goes text to r now
+
+-- what reading a line answers, told with the line's number
+abbrev pub on_line : ℕ → Result (Unit {0}) Cause → Result (Unit {0}) ReadFault
+on_line n (Ok u) = Ok u
+on_line n (Err c) = Err (record { cause = c; line = n })
+
+-- the same by the one line that is due, which answers only what is wrong with it
+abbrev pub LineLeads : {X Y : Type 0} → (X → Beginning) → (Y → Beginning) → Reader → Result (Unit {0}) Cause → Reader → Type 0
+LineLeads from to was r now = Leads from to was (on_line (was.cursor.line + 1) r) now
 
 -- ---- the stages
 

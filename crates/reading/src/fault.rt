@@ -1,10 +1,12 @@
-// Why a text is refused: the cause, and the line where it stands, from 1; 0 where no line is meant.
+// Why a text is refused: the cause, and the line where it stands, from 1; 0 where no line is meant, since a refusal is
+// written with that number.
 ghost use Rattle.reading.specs.Causes.{cause_number, cause_layer};
+ghost use Rattle.reading.specs.declared.fault.Cause.TheVariants.{Sheet};
 ghost use Rattle.std.specs.Prelude.{◌≡◌};
 
 use parts::fault::Fault;
 
-#[derive(Clone, Copy)]
+#[derive(Clone, Copy, Debug, PartialEq, Eq)]
 pub enum Cause {
     TooLong,
     Malformed,
@@ -15,19 +17,34 @@ pub enum Cause {
 }
 
 // Which layer says no.
-#[derive(Clone, Copy)]
+#[derive(Clone, Copy, Debug, PartialEq, Eq)]
 pub enum Layer {
     Text,
     Sheet,
 }
 
-#[derive(Clone, Copy)]
+#[derive(Clone, Copy, Debug, PartialEq, Eq)]
 pub struct ReadFault {
     pub cause: Cause,
     pub line: usize,
 }
 
+impl From<Fault> for Cause {
+    ghost from_gives = { λ fault cause. cause ≡ Sheet fault };
+
+    fn from(fault: Fault) -> Cause {
+        Self::Sheet(fault)
+    }
+}
+
 impl Cause {
+    // The cause, told on this line.
+    pub(crate) fn on(self, line: usize) -> ReadFault
+        ensures { result ≡ record { cause = self; line = line } }
+    {
+        ReadFault { cause: self, line }
+    }
+
     pub fn number(self) -> u8
         ensures { result ≡ cause_number self }
     {

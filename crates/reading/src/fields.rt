@@ -3,8 +3,26 @@ ghost use Rattle.reading.specs.Fields.{HeaderFields, BarFields, BoltFields, Hole
 ghost use Rattle.reading.specs.Shapes.{HeaderShape, BarShape, BoltShape, HoleShape, LoadShape};
 ghost use Rattle.std.specs.Option.{MatchOption};
 
+use parts::hole::Hole;
 use text::cursor::Cursor;
 use text::pieces::Piece;
+
+// A bar's line, with the name of its steel.
+#[derive(Clone, Copy)]
+pub(crate) struct BarLine<'a> {
+    pub(crate) width: u32,
+    pub(crate) thickness: u32,
+    pub(crate) steel: &'a [u8],
+    pub(crate) edge: u32,
+}
+
+// A bolt's line, with the name of its size.
+#[derive(Clone, Copy)]
+pub(crate) struct BoltLine<'a> {
+    pub(crate) size: &'a [u8],
+    pub(crate) stress: u32,
+    pub(crate) planes: u32,
+}
 
 // A count and a name.
 pub(crate) fn header_fields<'a>(cursor: &mut Cursor<'a>) -> Option<(u32, &'a [u8])>
@@ -15,36 +33,42 @@ pub(crate) fn header_fields<'a>(cursor: &mut Cursor<'a>) -> Option<(u32, &'a [u8
     Some((count, q.text()))
 }
 
-// Width, thickness, the name of a steel, and edge.
-pub(crate) fn bar_fields<'a>(cursor: &mut Cursor<'a>) -> Option<(u32, u32, &'a [u8], u32)>
+pub(crate) fn bar_fields<'a>(cursor: &mut Cursor<'a>) -> Option<BarLine<'a>>
     ensures { MatchOption result (BarShape cursor.old.rest.now → ⊥) (λ f. BarFields cursor.old f cursor.new) }
 {
     let [p, q, s, t] = cursor.line_of::<Piece, 4>()?;
     let width = p.unsigned()?;
     let thickness = q.unsigned()?;
     let edge = t.unsigned()?;
-    Some((width, thickness, s.text(), edge))
+    Some(BarLine {
+        width,
+        thickness,
+        steel: s.text(),
+        edge,
+    })
 }
 
-// The name of a size, shear stress and planes.
-pub(crate) fn bolt_fields<'a>(cursor: &mut Cursor<'a>) -> Option<(&'a [u8], u32, u32)>
+pub(crate) fn bolt_fields<'a>(cursor: &mut Cursor<'a>) -> Option<BoltLine<'a>>
     ensures { MatchOption result (BoltShape cursor.old.rest.now → ⊥) (λ f. BoltFields cursor.old f cursor.new) }
 {
     let [p, q, s] = cursor.line_of::<Piece, 3>()?;
     let stress = q.unsigned()?;
     let planes = s.unsigned()?;
-    Some((p.text(), stress, planes))
+    Some(BoltLine {
+        size: p.text(),
+        stress,
+        planes,
+    })
 }
 
-// x, y and diameter.
-pub(crate) fn hole_fields(cursor: &mut Cursor<'_>) -> Option<(u32, u32, u32)>
+pub(crate) fn hole_fields(cursor: &mut Cursor<'_>) -> Option<Hole>
     ensures { MatchOption result (HoleShape cursor.old.rest.now → ⊥) (λ f. HoleFields cursor.old f cursor.new) }
 {
     let [p, q, s] = cursor.line_of::<Piece, 3>()?;
     let x = p.unsigned()?;
     let y = q.unsigned()?;
     let diameter = s.unsigned()?;
-    Some((x, y, diameter))
+    Some(Hole { x, y, diameter })
 }
 
 // A letter and newtons.

@@ -1,17 +1,16 @@
-use Rattle.std.proofs.Common.{◌≡◌, ℕ, true, refl, inr, ⊎_elim, arith}
+use Rattle.std.proofs.Common.{◌≡◌, ◌≤◌, refl, inr, arith}
+use Rattle.std.specs.Range.{range_inclusive_start, range_inclusive_end}
+use Rattle.std.proofs.lemmas.Grind.{common_steps}
+use Rattle.std.proofs.lemmas.Option.{MatchOption-at_some}
 use Rattle.reading.proofs.header.header.Goals as goal
+use Rattle.reading.proofs.header.header.Goals.{then-not-same-via-then-not-same, then-not-same-via-else-not-same+then-not-contains}
 
 pub returns-then-not-same : goal.returns-then-not-same
 returns-then-not-same c =
-    let f = c.in-Some.ensures in (
-      omega arith,
-      inr (
-        refl,
-        (
-          record { count = c.in-Some.count; name = c.in-Some.word.now; rest = _; begins = f.0.begins; short = f.1 },
-          λ e low high.
-              let yes' : c.same.result ≡ true = c.same.ensures.1 e in
-              ⊎_elim (λ ne. let z : ◌≡◌ {A = ℕ} 0 1 = cc in omega arith) (λ p. ⊎_elim (λ q. omega arith) (λ q. omega arith) p) c.then-not-same.either,
-        ),
-      ),
-    )
+    let f = MatchOption-at_some _ _ _ c.in_ok-count.ensures.ok_part c.header_fields.ensures in
+    let other : c.in_ok-count.word.now ≡ c.args.name.now → range_inclusive_start c.args.counts ≤ c.in_ok-count.count → c.in_ok-count.count ≤ range_inclusive_end c.args.counts → ⊥ =
+    λ e low high. elim c.then-not-same.branch [
+      | then-not-same-via-then-not-same w ↦ grind (arith, common_steps)
+      | then-not-same-via-else-not-same+then-not-contains w ↦ grind (arith, common_steps)
+    ] in
+    rw c.on-then-not-same.ensures (omega arith, inr (refl, (record { count = c.in_ok-count.count; name = c.in_ok-count.word.now; rest = _; begins = f.0.begins; short = f.1 }, other)))
