@@ -28,54 +28,48 @@ pub(crate) struct BoltLine<'a> {
 pub(crate) fn header_fields<'a>(cursor: &mut Cursor<'a>) -> Option<(u32, &'a [u8])>
     ensures { MatchOption result (HeaderShape cursor.old.rest.now → ⊥) (λ f. HeaderFields cursor.old f cursor.new) }
 {
-    let [p, q] = cursor.line_of::<Piece, 2>()?;
-    let count = p.unsigned()?;
-    Some((count, q.text()))
+    let [count, name] = cursor.line_of::<Piece, 2>()?;
+    Some((count.unsigned()?, name.text()))
 }
 
 pub(crate) fn bar_fields<'a>(cursor: &mut Cursor<'a>) -> Option<BarLine<'a>>
     ensures { MatchOption result (BarShape cursor.old.rest.now → ⊥) (λ f. BarFields cursor.old f cursor.new) }
 {
-    let [p, q, s, t] = cursor.line_of::<Piece, 4>()?;
-    let width = p.unsigned()?;
-    let thickness = q.unsigned()?;
-    let edge = t.unsigned()?;
+    let [width, thickness, steel, edge] = cursor.line_of::<Piece, 4>()?;
     Some(BarLine {
-        width,
-        thickness,
-        steel: s.text(),
-        edge,
+        width: width.unsigned()?,
+        thickness: thickness.unsigned()?,
+        steel: steel.text(),
+        edge: edge.unsigned()?,
     })
 }
 
 pub(crate) fn bolt_fields<'a>(cursor: &mut Cursor<'a>) -> Option<BoltLine<'a>>
     ensures { MatchOption result (BoltShape cursor.old.rest.now → ⊥) (λ f. BoltFields cursor.old f cursor.new) }
 {
-    let [p, q, s] = cursor.line_of::<Piece, 3>()?;
-    let stress = q.unsigned()?;
-    let planes = s.unsigned()?;
+    let [size, stress, planes] = cursor.line_of::<Piece, 3>()?;
     Some(BoltLine {
-        size: p.text(),
-        stress,
-        planes,
+        size: size.text(),
+        stress: stress.unsigned()?,
+        planes: planes.unsigned()?,
     })
 }
 
 pub(crate) fn hole_fields(cursor: &mut Cursor<'_>) -> Option<Hole>
     ensures { MatchOption result (HoleShape cursor.old.rest.now → ⊥) (λ f. HoleFields cursor.old f cursor.new) }
 {
-    let [p, q, s] = cursor.line_of::<Piece, 3>()?;
-    let x = p.unsigned()?;
-    let y = q.unsigned()?;
-    let diameter = s.unsigned()?;
-    Some(Hole { x, y, diameter })
+    let [x, y, diameter] = cursor.line_of::<Piece, 3>()?;
+    Some(Hole {
+        x: x.unsigned()?,
+        y: y.unsigned()?,
+        diameter: diameter.unsigned()?,
+    })
 }
 
 // A letter and newtons.
 pub(crate) fn load_fields<'a>(cursor: &mut Cursor<'a>) -> Option<(&'a [u8], i32)>
     ensures { MatchOption result (LoadShape cursor.old.rest.now → ⊥) (λ f. LoadFields cursor.old f cursor.new) }
 {
-    let [p, q] = cursor.line_of::<Piece, 2>()?;
-    let value = q.signed()?;
-    Some((p.text(), value))
+    let [letter, newtons] = cursor.line_of::<Piece, 2>()?;
+    Some((letter.text(), newtons.signed()?))
 }

@@ -7,7 +7,6 @@ use crate::fault::{Cause, ReadFault};
 use crate::fields::header_fields;
 use std::ops::RangeInclusive;
 use text::cursor::Cursor;
-use text::cutting::same;
 
 // Its count, one of `counts`, where its name is this one.
 pub(crate) fn header(
@@ -20,7 +19,7 @@ pub(crate) fn header(
 {
     let line = cursor.line() + 1;
     let (count, word) = header_fields(cursor).ok_or(Cause::Malformed.on(line))?;
-    if !same(word, name) || !counts.contains(&count) {
+    if word != name || !counts.contains(&count) {
         return Err(Cause::WrongSection.on(line));
     }
     Ok(count)
