@@ -44,7 +44,7 @@ const SECTIONS: [Section; 4] = [
     },
 ];
 
-// The size of a number from 1 to 4.
+// The size of a number from 1 to 4. Written out, as a steel's is: conversions cannot be given to all types of a trait at once.
 impl TryFrom<u32> for Size {
     type Error = Fault;
 
@@ -87,6 +87,7 @@ impl TryFrom<&[u8]> for Size {
 }
 
 impl Size {
+    // Not a Display: a page takes bytes, and to put them on it cannot fail.
     pub fn name(self) -> &'static [u8]
         ensures name { result.now ≡ size_name self }
         ensures short { length result.now ≤ 3 }

@@ -24,6 +24,7 @@ pub enum Fault {
 }
 
 impl Fault {
+    // Not a conversion: two of them have the same number.
     pub fn number(self) -> u8
         ensures { result ≡ refusal_number self }
     {

@@ -10,7 +10,7 @@ pub struct Hole {
 }
 
 impl Hole {
-    // Holes are numbered by rising y, and by rising x where y is equal.
+    // Holes are numbered by rising y, and by rising x where y is equal. Not the type's own order, which tells diameters apart.
     pub fn is_before(&self, other: &Hole) -> bool
         ensures { result ≡ before self.now other.now }
     {
@@ -27,9 +27,9 @@ impl Hole {
     pub fn is_apart(&self, other: &Hole, diameter: u32) -> bool
         ensures { result ≡ apart diameter self.now other.now }
     {
-        let along = self.x.abs_diff(other.x) as u128;
-        let across = self.y.abs_diff(other.y) as u128;
-        let d = diameter as u128;
+        let along = u128::from(self.x.abs_diff(other.x));
+        let across = u128::from(self.y.abs_diff(other.y));
+        let d = u128::from(diameter);
         9 * (along * along + across * across) >= 64 * (d * d)
     }
 }

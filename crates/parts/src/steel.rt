@@ -98,6 +98,7 @@ impl TryFrom<&[u8]> for Steel {
 }
 
 impl Steel {
+    // Not a Display: a page takes bytes, and to put them on it cannot fail.
     pub fn name(self) -> &'static [u8]
         ensures name { result.now ≡ steel_name self }
         ensures short { length result.now ≤ 7 }

@@ -14,6 +14,7 @@ pub mod open;
 pub mod reads;
 
 // A change writes each field: a struct whose type keeps facts is not made by an update of another.
+// No equality is derived: rows that differ past their counts alone are the same.
 #[derive(Drop)]
 pub struct Sheet {
     bar: Option<Bar>,

@@ -16,6 +16,7 @@ use parts::load::LoadKind;
 use parts::quantity::Megapascals;
 use parts::steel::Steel;
 
+// Its calls take plain numbers, which come from outside.
 #[derive(Drop)]
 pub struct Open {
     pub(crate) sheet: Sheet,
@@ -23,6 +24,7 @@ pub struct Open {
 
 impl Open {
     // A new sheet: without bar, bolt and holes, all loads 0.
+    #[tactic(auto, unfolding(crate::specs::Law::lawful))]
     pub fn new() -> Open
         ensures { open_account result ≡ blank }
     {
@@ -36,6 +38,7 @@ impl Open {
         }
     }
 
+    #[tactic(auto, using(crate::proofs::Holes::law_none))]
     pub fn bar(&mut self, width: u32, thickness: u32, steel: u32, edge: u32) -> Result<(), Fault>
         ensures { Bars (open_account self.old) width thickness steel edge result (open_account self.new) }
     {
@@ -61,6 +64,7 @@ impl Open {
         Ok(())
     }
 
+    #[tactic(auto, using(crate::proofs::Holes::law_none))]
     pub fn bolt(&mut self, size: u32, stress: u32, planes: u32) -> Result<(), Fault>
         ensures { Bolts (open_account self.old) size stress planes result (open_account self.new) }
     {
@@ -85,6 +89,7 @@ impl Open {
         Ok(())
     }
 
+    #[tactic(auto, using(crate::proofs::Tables::tells))]
     pub fn put(&mut self, x: u32, y: u32, diameter: u32) -> Result<(), Fault>
         ensures settled { Puts (open_account self.old) x y diameter result (open_account self.new) }
         ensures tables { FirstTells }
@@ -101,6 +106,7 @@ impl Open {
         Ok(())
     }
 
+    #[tactic(auto, using(crate::proofs::Shift::no_centre, crate::proofs::Shift::at_centre))]
     pub fn take(&mut self, x: u32, y: u32) -> Result<(), Fault>
         ensures settled { Takes (open_account self.old) x y result (open_account self.new) }
         ensures leaves { result ≡ Ok tt → Leaves x y (open_account self.old).holes (open_account self.new).holes }

@@ -24,6 +24,7 @@ impl Sheet {
     }
 
     // Why a hole cannot be put.
+    #[tactic(auto, unfolding(crate::specs::Calls::put_fault_by))]
     pub(crate) fn accepts(&self, hole: &Hole) -> Result<(), Fault>
         ensures { result ≡ answer (put_fault (account self.now) hole.now) }
     {

@@ -12,6 +12,7 @@ use parts::hole::Hole;
 
 impl<'a> Joint<'a> {
     // Not a conversion: a joint looks at the sheet, which stays.
+    #[tactic(auto, using(crate::proofs::Joints::no_fault, crate::proofs::Joints::all_shown, crate::proofs::Joints::sheet_sound))]
     pub fn of(sheet: &'a Sheet) -> Result<Joint<'a>, Fault>
         ensures { JointOf (account sheet.now) result }
     {

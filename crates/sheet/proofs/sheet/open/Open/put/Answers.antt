@@ -5,7 +5,6 @@ use Rattle.sheet.specs.Numbering.{Joins}
 use Rattle.sheet.specs.Rows.{holes_of}
 use Rattle.sheet.proofs.Holes.{law_accepted, law_pairs}
 use Rattle.sheet.proofs.Numbers.{joins}
-use Rattle.sheet.proofs.Tables.{tells}
 use Rattle.sheet.proofs.sheet.open.Open.put.Goals as goal
 
 pub with-requires : goal.with-requires
@@ -22,9 +21,3 @@ returns-clause-joins c = λ _.
     let h = hole_at c.args.x c.args.y c.args.diameter in
     let kept = law_accepted _ _ _ _ c.accepts.ensures c.in_ok-accepts.was s.law in
     subst (Joins h (holes_of s.row)) (sym c.with.ensures) (joins h (holes_of s.row) (law_pairs s.bar s.bolt _ kept.1))
-
-pub returns-clause-tables : goal.returns-clause-tables
-returns-clause-tables c = tells
-
-pub returns-in_err-accepts-clause-tables : goal.returns-in_err-accepts-clause-tables
-returns-in_err-accepts-clause-tables c = tells
