@@ -14,6 +14,7 @@ pub trait LimitState {
 
     ghost meaning: { Self → Details → ℕ };
 
+    // Each limit state multiplies its own stress and lengths: one function for all four would only name a product.
     fn strength(&self, joint: Joint<'_>) -> Decinewtons
         ensures { result.0 ≡ pos (meaning self.now (details joint.entry)) };
 
