@@ -6,7 +6,7 @@ ghost use Rattle.std.specs.Int.{w64};
 use std::ops::{Add, Sub};
 
 // A net width or a stagger term, in thousandths of a millimetre.
-#[derive(Clone, Copy, Debug, PartialEq, Eq, PartialOrd, Ord)]
+#[derive(Clone, Copy, Debug, Default, PartialEq, Eq, PartialOrd, Ord)]
 pub struct Micrometres(pub i64);
 
 // A yield, tensile or shear stress.
