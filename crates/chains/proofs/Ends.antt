@@ -1,12 +1,12 @@
 -- The least chain of all, from the least ones that end in each hole.
-use Rattle.std.proofs.Common.{◌≡◌, ℕ, zero, suc, ◌+◌, ◌<◌, List, [], ◌∷◌, length, ℤ, ◌≤ℤ◌, sym, refl, ap, subst, inl, inr, ⊎_elim, add-one, arith}
+use Rattle.std.proofs.Common.{◌≡◌, ℕ, zero, suc, ◌<◌, List, [], ◌∷◌, length, ℤ, ◌≤ℤ◌, Some, sym, refl, ap, subst, inl, inr, ⊎_elim, arith}
 use borrow.Author.Differences.{ints}
 use Rattle.std.proofs.lemmas.Bool.{cases_lt}
 use Rattle.parts.specs.declared.hole.Hole.{Hole}
 use Rattle.chains.specs.declared.search.Step.{Step}
 use Rattle.chains.specs.Chains.{Chain, width}
 use Rattle.chains.specs.Least.{NoLater, Least, Once}
-use Rattle.chains.specs.Search.{net_at, Follows, Tells, Full, Slimmest}
+use Rattle.chains.specs.Search.{net_at, led, Tells, Full, Slimmest}
 use Rattle.chains.proofs.Basics.{real}
 
 -- the steps lead through the least chain from the hole at e on
@@ -14,17 +14,17 @@ pub record Found (bar : ℕ) (hs : List Hole) (steps : List Step) (e : ℕ) : Ty
   pub chain : List ℕ
   pub least : Least bar hs chain
   pub wide : net_at steps e ≡ width bar hs chain
-  pub leads : Follows steps (e + 1) chain
+  pub leads : led steps (Some e) ≡ chain
 
-module _ (bar : ℕ) (hs : List Hole) (steps : List Step) (full : Full bar hs steps (length hs)) (e : ℕ) (s : Slimmest steps (length hs) e) where
+module _ (bar : ℕ) (hs : List Hole) (steps : List Step) (full : Full bar hs steps) (all : length steps ≡ length hs) (e : ℕ) (s : Slimmest steps e) where
   abbrev t : Tells bar hs steps e
-  t = full.tells e s.below
+  t = full e s.below
 
   -- the least one that ends where a chain ends lies between it and the least of all
   between : (k : ℕ) (ms : List ℕ) → Chain hs (suc k ∷ ms) → (net_at steps k ≤ℤ width bar hs (suc k ∷ ms)) × (net_at steps e ≤ℤ net_at steps k)
   between k ms ch =
-      let lt : k < length hs = omega (arith, real hs (suc k) ms ch) in
-      let r = full.tells k lt in
+      let lt : k < length steps = omega (arith, real hs (suc k) ms ch) in
+      let r = full k lt in
       let n = r.ending.narrowest ms ch in
       (omega (arith, ints, r.is), s.least k lt)
 
@@ -43,19 +43,18 @@ module _ (bar : ℕ) (hs : List Hole) (steps : List Step) (full : Full bar hs st
   soon (zero ∷ ms) ch same = absurd (omega (arith, real hs zero ms ch))
   soon (suc k ∷ ms) ch same =
       let b = between k ms ch in
-      let lt : k < length hs = omega (arith, real hs (suc k) ms ch) in
+      let lt : k < length steps = omega (arith, real hs (suc k) ms ch) in
       let level : net_at steps k ≡ net_at steps e = omega (arith, ints, t.is) in
       let le = s.first k lt level in
       ⊎_elim (λ l. inl (omega arith)) (λ ge. let eq : k ≡ e = omega arith in inr (ap suc (sym eq), same_end k ms eq ch same)) (cases_lt e k)
 
   pub found_all : Found bar hs steps e
   found_all =
-      let f = t.follows in
       record {
         chain = suc e ∷ t.rest;
         least = record { chain = t.ending.chain; narrowest = slim; first = soon };
         wide = t.is;
-        leads = (add-one e, f.1, f.2, f.3);
+        leads = t.leads;
       }
 
 -- ---- there is one least chain

@@ -6,3 +6,6 @@ pub mod Paths
 pub mod Nets
 pub mod Roundings
 pub mod Facts
+pub mod Led
+pub mod Fronts
+pub mod Firsts

@@ -6,10 +6,11 @@ use Rattle.std.proofs.ByRecursion.{All-append, All-map, All-weaker, All-get_or, 
 use Rattle.std.proofs.lemmas.List.{get_or-map, length-map}
 use Rattle.std.proofs.lemmas.Bool.{cases_lt, lt-ltb, ltb-true, and_from, and_parts, cond_both, both_ways}
 use Rattle.parts.specs.declared.hole.Hole.{Hole}
+use Rattle.chains.specs.declared.search.Step.{Step}
 use Rattle.chains.specs.Chains.{the, Chain, cuts, width}
 use Rattle.chains.specs.Least.{Least}
 use Rattle.chains.specs.NetWidth.{falls, chained, all_chains, net_width}
-use Rattle.chains.specs.Search.{Ready}
+use Rattle.chains.specs.Search.{Ready, net_at, Tells}
 use Rattle.chains.proofs.Basics.{real, head, early, chain_few}
 use Rattle.chains.proofs.Ends.{level}
 
@@ -151,3 +152,9 @@ module _ (bar : ℕ) (hs : List Hole) (ok : Ready bar hs) where
       (λ e. subst (λ (z : ℤ). pos 0 ≤ℤ (z +ℤ pos 1088000)) (sym e) (omega (arith, ints)))
       (λ h. subst (λ (z : ℤ). pos 0 ≤ℤ (z +ℤ pos 1088000)) h.2 (width_above h.0 h.1))
       reached
+
+  -- and those of a step
+  pub told_bounds : (steps : List Step) (j : ℕ) → Tells bar hs steps j → (pos 0 ≤ℤ (net_at steps j +ℤ pos 1088000)) × (net_at steps j ≤ℤ pos 1000000)
+  told_bounds steps j t =
+      let only = t.ending.narrowest [] (real hs (suc j) t.rest t.ending.chain) in
+      (omega (arith, ints, t.is, width_above (suc j ∷ t.rest) t.ending.chain), omega (arith, ints, t.is, ok.narrow))

@@ -1,50 +1,72 @@
 -- The first of the least ways on backwards, with one more way at a time.
-use Rattle.std.proofs.Common.{◌≡◌, ℕ, suc, ◌+◌, ◌<◌, ◌≤◌, List, ◌≤ℤ◌, ◌<ℤ◌, sym, subst, ⊎_elim, arith}
+use Rattle.std.proofs.Common.{◌≡◌, ℕ, ◌+◌, ◌≤◌, ◌⊎◌, List, Option, None, Some, ◌≤ℤ◌, ◌<ℤ◌, int_lt, true, false, cond, sym, refl, ap, ◌∙◌, subst, inl, inr, ⊎_elim, arith}
 use borrow.Author.Differences.{ints}
+use Rattle.std.specs.declared.cmp.Ordering.{Ordering}
+use Rattle.std.specs.declared.cmp.Ordering.TheVariants.{Equal, Greater}
+use Rattle.std.specs.Ordering.{is_lt, ord_min, int_cmp}
 use Rattle.std.proofs.lemmas.Int.{by_lt_z}
 use Rattle.std.proofs.lemmas.Bool.{cases_lt}
 use Rattle.parts.specs.declared.hole.Hole.{Hole}
 use Rattle.chains.specs.declared.search.Step.{Step}
-use Rattle.chains.specs.Chains.{the}
-use Rattle.chains.specs.Search.{net_at, May, reach, Picks, Fine}
+use Rattle.chains.specs.Search.{number, May, reach, Picks}
 
-module _ (bar : ℕ) (hs : List Hole) (steps : List Step) (n i j : ℕ) (s : Step) (k : Picks bar hs steps n (suc j) s × Fine i s.net.0) where
+-- a place within one more is within, or the last
+upto : (j : ℕ) (q : Option ℕ) → number q ≤ j + 1 → (number q ≤ j) ⊎ (q ≡ Some j)
+upto j None h = inl (omega arith)
+upto j (Some k) h =
+    ⊎_elim (λ lt. inl (omega arith)) (λ ge. let e : k ≡ j = omega arith in inr (ap Some e)) (cases_lt k j)
+
+-- steps by their widths
+abbrev pub by_net : Step → Step → Ordering
+by_net a b = int_cmp a.net.0 b.net.0
+
+first : (s t : Step) → s.net.0 ≤ℤ t.net.0 → ord_min by_net s t ≡ s
+first s t h = let e : int_lt t.net.0 s.net.0 ≡ false = grind (arith, ints) in rw e (elim (int_lt s.net.0 t.net.0) as (λ b. cond (is_lt (cond b Greater Equal)) t s ≡ s) [ true ↦ refl | false ↦ refl ])
+
+second : (s t : Step) → t.net.0 <ℤ s.net.0 → ord_min by_net s t ≡ t
+second s t h = let e : int_lt t.net.0 s.net.0 ≡ true = grind (arith, ints) in rw e
+
+-- the hole alone, before any place is looked at
+pub alone : (bar : ℕ) (hs : List Hole) (steps : List Step) (n : ℕ) (s : Step) → s.before ≡ None → s.net.0 ≡ reach bar hs steps n None → Picks bar hs steps n 0 s
+alone bar hs steps n s none is = record {
+  below = omega (arith, ap number none);
+  may = subst (May hs n) (sym none) tt;
+  is = is ∙ ap (reach bar hs steps n) (sym none);
+  least = upto_none;
+  first = λ q lt may same. omega (arith, ap number none);
+}
+  where
+    upto_none : (q : Option ℕ) → number q ≤ 0 → May hs n q → s.net.0 ≤ℤ reach bar hs steps n q
+    upto_none None lt may = omega (arith, ints)
+    upto_none (Some j) lt may = absurd (omega arith)
+
+module _ (bar : ℕ) (hs : List Hole) (steps : List Step) (n j : ℕ) (s : Step) (k : Picks bar hs steps n j s) where
   -- the way behind the hole at j is left
-  pub keeps : (May hs n (suc j) → s.net.0 ≤ℤ reach bar hs steps n (suc j)) → Picks bar hs steps n (suc (j + 1)) s × Fine i s.net.0
-  keeps up = (
-    record {
-      below = omega (arith, k.0.below);
-      may = k.0.may;
-      is = k.0.is;
-      least = λ q lt may. ⊎_elim (λ l. k.0.least q l may) (λ ge. at q (omega arith) may) (cases_lt q (suc j));
-      first = λ q lt may same. ⊎_elim (λ l. k.0.first q l may same) (λ ge. omega (arith, k.0.below)) (cases_lt q (suc j));
-    },
-    k.1,
-  )
-    where
-      at : (q : ℕ) → q ≡ suc j → May hs n q → s.net.0 ≤ℤ reach bar hs steps n q
-      at q e may = subst (λ (m : ℕ). May hs n m → s.net.0 ≤ℤ reach bar hs steps n m) (sym e) up may
+  pub keeps : (May hs n (Some j) → s.net.0 ≤ℤ reach bar hs steps n (Some j)) → Picks bar hs steps n (j + 1) s
+  keeps up = record {
+    below = omega (arith, k.below);
+    may = k.may;
+    is = k.is;
+    least = λ q lt. ⊎_elim (k.least q) (λ e. subst (λ (p : Option ℕ). May hs n p → s.net.0 ≤ℤ reach bar hs steps n p) (sym e) up) (upto j q lt);
+    first = λ q lt may same. ⊎_elim (λ l. k.first q l may same) (λ e. omega (arith, k.below, ap number e)) (upto j q lt);
+  }
 
-  module _ (t : Step) (lt : j < i) (fine : Fine j (net_at steps j)) (small : (the hs n).diameter ≤ 32) (may' : May hs n (suc j)) (is' : t.net.0 ≡ reach bar hs steps n (suc j)) (from : t.from ≡ suc j) where
+  module _ (t : Step) (may' : May hs n (Some j)) (is' : t.net.0 ≡ reach bar hs steps n (Some j)) (before : t.before ≡ Some j) where
     -- it is taken
-    takes : t.net.0 <ℤ s.net.0 → Picks bar hs steps n (suc (j + 1)) t × Fine i t.net.0
-    takes less = (
-      record {
-        below = omega arith;
-        may = subst (May hs n) (sym from) may';
-        is = subst (λ (p : ℕ). t.net.0 ≡ reach bar hs steps n p) (sym from) is';
-        least = λ q lt may. ⊎_elim (λ l. let h = k.0.least q l may in omega (arith, ints)) (λ ge. at q (omega arith)) (cases_lt q (suc j));
-        first = λ q lt may same. ⊎_elim (λ l. let h = k.0.least q l may in absurd (omega (arith, ints))) (λ ge. omega arith) (cases_lt q (suc j));
-      },
-      (omega (arith, ints), omega (arith, ints, k.1.1)),
-    )
-      where
-        at : (q : ℕ) → q ≡ suc j → t.net.0 ≤ℤ reach bar hs steps n q
-        at q e = subst (λ (m : ℕ). t.net.0 ≤ℤ reach bar hs steps n m) (sym e) (omega (arith, ints))
+    takes : t.net.0 <ℤ s.net.0 → Picks bar hs steps n (j + 1) t
+    takes less = record {
+      below = omega (arith, ap number before);
+      may = subst (May hs n) (sym before) may';
+      is = subst (λ (p : Option ℕ). t.net.0 ≡ reach bar hs steps n p) (sym before) is';
+      least = λ q lt may.
+          ⊎_elim (λ l. let h = k.least q l may in omega (arith, ints)) (λ e. subst (λ (p : Option ℕ). t.net.0 ≤ℤ reach bar hs steps n p) (sym e) (omega (arith, ints))) (upto j q lt);
+      first = λ q lt may same.
+          ⊎_elim (λ l. let h = k.least q l may in absurd (omega (arith, ints))) (λ e. omega (arith, ap number e, ap number before)) (upto j q lt);
+    }
 
     -- the narrower of the two, the old one of equals
-    pub chooses : (r : Step) → (s.net.0 ≤ℤ t.net.0 → r ≡ s) → (t.net.0 <ℤ s.net.0 → r ≡ t) → Picks bar hs steps n (suc (j + 1)) r × Fine i r.net.0
-    chooses r old new =
+    pub chooses : (r : Step) → r ≡ ord_min by_net s t → Picks bar hs steps n (j + 1) r
+    chooses r e =
         by_lt_z t.net.0 s.net.0
-        (λ less. subst (λ (u : Step). Picks bar hs steps n (suc (j + 1)) u × Fine i u.net.0) (sym (new less)) (takes less))
-        (λ le. subst (λ (u : Step). Picks bar hs steps n (suc (j + 1)) u × Fine i u.net.0) (sym (old le)) (keeps (λ may. omega (arith, ints))))
+        (λ less. subst (Picks bar hs steps n (j + 1)) (sym (e ∙ second s t less)) (takes less))
+        (λ le. subst (Picks bar hs steps n (j + 1)) (sym (e ∙ first s t le)) (keeps (λ may. omega (arith, ints))))

@@ -1,9 +1,11 @@
 // The least chain of holes across a flat bar, and the net width along it.
 #![tactic(auto)]
 
+mod backwards;
+mod holed_bar;
 mod naming;
+mod neighbours;
 mod search;
-mod stagger;
 
 ghost use Rattle.std.specs.Prelude.{◌≡◌};
 ghost use Rattle.sheet.specs.Details.{details};
@@ -12,11 +14,14 @@ ghost use Rattle.chains.specs.NetWidth.{net_width};
 ghost use Rattle.chains.specs.Rounding.{Rounded};
 ghost use Rattle.chains.specs.Slips.{Named};
 
+use backwards::Backwards;
+use holed_bar::HoledBar;
 use naming::write_chain;
 use parts::quantity::Micrometres;
-use search::{all_steps, narrowest_end};
+use search::narrowest_end;
 use sheet::Joint;
 
+// A slip is 32 numbers that a 0 ends, since those who call from outside hand one over.
 // Names the least chain of the joint's holes on the slip, first hole first, with a 0 behind it if a place remains, and answers its width.
 pub fn least_chain(joint: Joint<'_>, slip: &mut [u8; 32]) -> Micrometres
     ensures named { Named (details joint.entry).bar.width (details joint.entry).holes slip.old slip.new result.0 }
@@ -24,11 +29,14 @@ pub fn least_chain(joint: Joint<'_>, slip: &mut [u8; 32]) -> Micrometres
     ensures rounded { Rounded (details joint.entry).bar.width (details joint.entry).holes result.0 }
     ensures once { Once (details joint.entry).bar.width (details joint.entry).holes }
 {
-    let holes = joint.holes();
-    let steps = all_steps(joint.bar().width, holes);
-    let end = narrowest_end(&steps, holes.len());
-    write_chain(&steps, end.place as u8 + 1, slip);
-    end.net
+    let steps = HoledBar::from(joint).steps();
+    let (end, net) = narrowest_end(&steps);
+    let chain = Backwards {
+        steps: &steps,
+        at: Some(end),
+    };
+    write_chain(chain, slip);
+    net
 }
 
 // The width of the least chain.

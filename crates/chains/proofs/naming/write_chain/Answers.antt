@@ -1,44 +1,55 @@
-use Rattle.std.proofs.Common.{◌≡◌, ℕ, drop, set, sym, ap, ◌∙◌, ⊎_elim, arith}
-use mathlib.Core.List.{reverse_aux}
+use Rattle.std.proofs.Common.{◌≡◌, ◌+◌, length, reverse, set, sym, ap, ◌∙◌, subst, inl, ⊎_elim, arith}
 use Rattle.std.proofs.lemmas.List.{length-set, set_past}
-use Rattle.std.proofs.lemmas.Bool.{cases_lt}
-use Rattle.chains.proofs.Paths.{write_on, write_more, filed_all, follows_bound}
+use Rattle.chains.specs.Search.{led}
+use Rattle.chains.specs.Slips.{filed}
+use Rattle.chains.proofs.Led.{led_short}
+use Rattle.chains.proofs.Paths.{Written, written_more, filed_all}
 use Rattle.chains.proofs.naming.write_chain.Goals as goal
-use Rattle.chains.proofs.naming.write_chain.Goals.{After-end_at}
+use Rattle.chains.proofs.naming.write_chain.Goals.{In-None}
 
-pub loop-at-init : goal.loop-at-init
-loop-at-init c =
-    let long = c.holes_of-place.ensures c.requires.0 c.requires.1 in (
-      (λ ns f. let e = c.holes_of-place.ensures ns f in (ns, f, e, ap (λ (k : ℕ). reverse_aux ns (drop k c.end_at.new.slip)) e)),
-      c.end_at.array_long,
-      omega (arith, follows_bound _ _ c.requires.0 c.requires.1),
-      omega (arith, c.requires.2),
-    )
+pub count-count-requires-clause-fits : goal.count-count-requires-clause-fits
+count-count-requires-clause-fits c = inl (omega (arith, led_short c.args.chain.steps.now c.args.chain.at))
 
-pub overflow_sub-place : goal.overflow_sub-place
-overflow_sub-place c = omega (arith, write_on _ _ _ c.loop-at-test.true _ _ _ c.loop-at.invariant.0 c.requires.0 c.requires.1)
+pub bounds-slip-place : goal.bounds-slip-place
+bounds-slip-place c =
+    let it = c.loop-place.place-iterator.b in
+    omega (arith, c.in-Some.ensures.steps, led_short it.steps.now it.at)
 
-pub loop-at-smaller : goal.loop-at-smaller
-loop-at-smaller c = omega (arith, write_on _ _ _ c.loop-at-test.true _ _ _ c.loop-at.invariant.0 c.requires.0 c.requires.1)
+pub loop-place-preserved : goal.loop-place-preserved
+loop-place-preserved c =
+    let so = c.loop-place.invariant in
+    let took = c.in-Some.ensures.steps in
+    let it = c.loop-place.place-iterator.b in
+    let left = c.next.new.self.b in
+    let rest = led it.steps.now it.at in
+    let more = led left.steps.now left.at in
+    let long : length rest ≡ length more + 1 = omega (arith, ap length took.1) in
+    let place : c.in-Some.place ≡ length more = omega (arith, took) in
+    record {
+      can_next = so.can_next;
+      is_finite = so.is_finite;
+      count = so.count;
+      start = omega (arith, took);
+      end = omega (arith, took);
+      written =
+          subst (λ k. Written (led c.args.chain.steps.now c.args.chain.at) c.args.slip.now more (set c.loop-place.slip k c.in-Some.number)) (sym place)
+          (written_more (led c.args.chain.steps.now c.args.chain.at) c.args.slip.now rest more c.loop-place.slip c.in-Some.number took.1 (omega (arith, led_short it.steps.now it.at)) so.written);
+      long = length-set _ _ _ ∙ so.long;
+    }
 
-pub loop-at-preserved : goal.loop-at-preserved
-loop-at-preserved c =
-    let on = write_on _ _ _ c.loop-at-test.true _ _ _ c.loop-at.invariant.0 c.requires.0 c.requires.1 in (
-      write_more _ _ _ c.loop-at-test.true _ _ c.loop-at.slip (omega (arith, c.loop-at.invariant.1, c.loop-at.invariant.3)) c.loop-at.invariant.0,
-      simp length-set c.loop-at.invariant.1,
-      omega arith,
-      omega (arith, c.loop-at.invariant.3),
-    )
+written_all : (c : In-None) → set c.loop-place.slip c.count-count.result 0 ≡ filed (reverse (led c.args.chain.steps.now c.args.chain.at)) c.args.slip.now
+written_all c =
+    let so = c.loop-place.invariant in
+    let it = c.loop-place.place-iterator.b in
+    let none : length (led it.steps.now it.at) ≡ 0 =
+    ⊎_elim (λ x. omega (arith, so.end, x.1.1.0)) (λ x. ap length x.1.0) c.in-None.ensures.steps in
+    ap (λ k. set c.loop-place.slip k 0) so.count
+    ∙ filed_all (led c.args.chain.steps.now c.args.chain.at) c.args.slip.now (led it.steps.now it.at) c.loop-place.slip none (omega (arith, led_short c.args.chain.steps.now c.args.chain.at, c.told-slip)) so.written
 
--- with 32 numbers there is no place for the 0
-ended : (c : After-end_at) → c.end_at.new.slip ≡ set c.args.slip.now c.holes_of-place.result 0
-ended c =
-    ⊎_elim c.end_at.ensures.ended
-    (λ ge. c.end_at.ensures.whole ge ∙ sym (set_past c.args.slip.now c.holes_of-place.result 0 (omega (arith, c.told-slip)))) (cases_lt c.holes_of-place.result 32)
+pub returns-then-count-lt32 : goal.returns-then-count-lt32
+returns-then-count-lt32 c = written_all (goal.at.returns-then-count-lt32 c).In-None
 
-pub returns : goal.returns
-returns c ns f =
-    let long = c.holes_of-place.ensures ns f in
-    let few = c.holes_of-place.ensures c.requires.0 c.requires.1 in
-    filed_all _ _ _ _ c.args.slip.now _ _ ns c.loop-at-test.false c.loop-at.invariant.0
-    (ended (goal.at.returns c).After-end_at ∙ ap (λ (k : ℕ). set c.args.slip.now k 0) long) (omega (arith, c.requires.2)) f
+pub returns-else-count-lt32 : goal.returns-else-count-lt32
+returns-else-count-lt32 c =
+    let so = c.loop-place.invariant in
+    sym (set_past c.loop-place.slip c.count-count.result 0 (omega (arith, so.long))) ∙ written_all (goal.at.returns-else-count-lt32 c).In-None

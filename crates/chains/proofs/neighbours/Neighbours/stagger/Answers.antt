@@ -1,5 +1,5 @@
 use Rattle.std.proofs.Common.{◌*◌, ◌≤◌, mul-le-mul, arith}
-use Rattle.chains.proofs.stagger.stagger_of.Goals as goal
+use Rattle.chains.proofs.neighbours.Neighbours.stagger.Goals as goal
 
 pub overflow_mul-result-2 : goal.overflow_mul-result-2
 overflow_mul-result-2 c =
