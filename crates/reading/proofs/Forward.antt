@@ -49,31 +49,17 @@ pub ◌then◌ : {X Y Z : Type 0} {from : X → Beginning} {by : Y → Beginning
     → Leads from by was (Ok u) mid → Leads by to mid r now → Leads from to was r now
 ◌then◌ p q = record { goes = λ text x at. let y = p.goes text x at in q.goes text y.0 y.1 }
 
--- from any beginning of a stage the text's first faulty line is this one
-pub record Fails {X : Type 0} (from : X → Beginning) (was : Reader) (e : ReadFault) : Type 0 where
-  pub faulty : (text : List ℕ) (x : X) → At text (from x) was → FaultyLine text e
-
--- a part that broke off, from each beginning of its stage
-pub failed : {X Y : Type 0} {from : X → Beginning} {to : Y → Beginning} {was now : Reader} {e : ReadFault} {r : Result (Unit {0}) ReadFault} → Leads from to was r now → r ≡ Err e → Fails from was e
-failed {X} {Y} {from} {to} {was} {now} {e} {r} p is = record { faulty = (subst (λ x. Leads from to was x now) is p).goes }
-
--- a part that went well
-pub went : {X Y : Type 0} {from : X → Beginning} {to : Y → Beginning} {was now : Reader} {u : Unit {0}} {r : Result (Unit {0}) ReadFault} → Leads from to was r now → r ≡ Ok u → Leads from to was (Ok u) now
-went {X} {Y} {from} {to} {was} {now} p is = subst (λ x. Leads from to was x now) is p
+-- a part by what it answered
+pub answered : {X Y : Type 0} {from : X → Beginning} {to : Y → Beginning} {was now : Reader} {r s : Result (Unit {0}) ReadFault} → Leads from to was r now → r ≡ s → Leads from to was s now
+answered {X} {Y} {from} {to} {was} {now} p is = subst (λ x. Leads from to was x now) is p
 
 -- a part that breaks off is told as it is
-pub broke : {X Y : Type 0} {from : X → Beginning} {to : Y → Beginning} {was now : Reader} {e : ReadFault} {r : Result (Unit {0}) ReadFault}
-    → Fails from was e → IsErrAnd r (λ y. y ≡ e) → Leads from to was r now
-broke {X} {Y} {from} {to} {was} {now} {e} {r} p is =
+pub broke : {X Y Z : Type 0} {from : X → Beginning} {by : Y → Beginning} {to : Z → Beginning} {was mid now : Reader} {e : ReadFault} {r : Result (Unit {0}) ReadFault}
+    → Leads from by was (Err e) mid → IsErrAnd r (λ y. y ≡ e) → Leads from to was r now
+broke {X} {Y} {Z} {from} {by} {to} {was} {mid} {now} {e} {r} p is =
     let told = err_from_is_err_and r is in
     subst (λ x. Leads from to was x now) (sym told.1)
-    (subst (λ x. Leads from to was (Err x) now) (sym told.2) (record { goes = p.faulty }))
-
-infixr 5 ◌fails◌
--- the same after a part that was good
-pub ◌fails◌ : {X Y : Type 0} {from : X → Beginning} {by : Y → Beginning} {was mid : Reader} {u : Unit {0}} {e : ReadFault}
-    → Leads from by was (Ok u) mid → Fails by mid e → Fails from was e
-◌fails◌ p q = record { faulty = λ text x at. let y = p.goes text x at in q.faulty text y.0 y.1 }
+    (subst (λ x. Leads from to was (Err x) now) (sym told.2) (record { goes = p.goes }))
 
 -- what is wrong with the line that is due at a stage
 pub record Wrong {X : Type 0} (from : X → Beginning) (was : Reader) (c : Cause) : Type 0 where
@@ -93,7 +79,7 @@ wrong_line {X} {Y} {from} {to} {was} {now} {c} r p is =
 -- a line whose answer is told with its number
 pub lined : {X Y : Type 0} {from : X → Beginning} {to : Y → Beginning} {was now : Reader} (r : Result (Unit {0}) Cause) {y : Result (Unit {0}) ReadFault}
     → LineLeads from to was r now → y ≡ on_line (was.cursor.line + 1) r → Leads from to was y now
-lined {X} {Y} {from} {to} {was} {now} r p told = subst (λ x. Leads from to was x now) (sym told) p
+lined r p told = answered p (sym told)
 
 pub told_on : (n : ℕ) (r : Result (Unit {0}) Cause) (y : Result (Unit {0}) ReadFault) → MatchResult r (λ u. y ≡ Ok u) (λ c. IsErrAnd y (λ e. e ≡ record { cause = c; line = n })) → y ≡ on_line n r
 told_on n (Ok u) y h = h

@@ -1,13 +1,13 @@
 -- The first line of each section.
-use Rattle.std.proofs.Common.{◌≡◌, ℕ, ◌+◌, List, [], ◌∷◌, length, Ok, codes, decimal, refl, subst, inr, arith}
+use Rattle.std.proofs.Common.{◌≡◌, ℕ, ◌+◌, List, [], ◌∷◌, length, Ok, Err, codes, decimal, refl, subst, arith}
 use Rattle.text.specs.declared.cursor.Cursor.{Cursor}
-use Rattle.reading.specs.Beginnings.{nothing, bar_named, barred, bolt_named, bolted, holing, loading}
+use Rattle.reading.specs.Beginnings.{Beginning, nothing, bar_named, barred, bolt_named, bolted, holing, loading}
 use Rattle.reading.specs.Fields.{Passed, HeaderRead}
-use Rattle.reading.specs.LineFaults.{HeaderFault}
+use Rattle.reading.specs.LineFaults.{LineFault}
 use Rattle.reading.specs.Stages.{Leads, at_start, at_bar, with_bar, at_bolt, with_bolt, with_holes, drilled, at_loads}
 use Rattle.reading.specs.declared.fault.ReadFault.{ReadFault}
 use Rattle.reading.specs.declared.reader.Reader.{Reader}
-use Rattle.reading.proofs.Forward.{next, faulty_line, Fails}
+use Rattle.reading.proofs.Forward.{next, faulty_line}
 
 counted : {was now : Cursor} (n k : ℕ) (name : List ℕ) → n ≡ k → Passed was (decimal n ∷ name ∷ []) now → Passed was (decimal k ∷ name ∷ []) now
 counted {was} {now} n k name e p = subst (λ (m : ℕ). Passed was (decimal m ∷ name ∷ []) now) e p
@@ -41,15 +41,6 @@ module _ (was : Reader) {mid : Cursor} where
         );
   }
 
-module _ {was : Reader} where
-  pub bar_misheaded : (e : ReadFault) → (e.line ≡ was.cursor.line + 1) × HeaderFault (codes "bar") 1 1 was.cursor.rest.now e.cause → Fails at_start was e
-  bar_misheaded e h = record { faulty = λ text u at. faulty_line nothing at h.0 h.1 }
-
-  pub bolt_misheaded : (e : ReadFault) → (e.line ≡ was.cursor.line + 1) × HeaderFault (codes "bolt") 1 1 was.cursor.rest.now e.cause → Fails with_bar was e
-  bolt_misheaded e h = record { faulty = λ text b at. faulty_line (barred b) at h.0 h.1 }
-
-  pub holes_misheaded : (e : ReadFault) → (e.line ≡ was.cursor.line + 1) × HeaderFault (codes "holes") 0 32 was.cursor.rest.now e.cause → Fails with_bolt was e
-  holes_misheaded e h = record { faulty = λ text p at. faulty_line (bolted p.0 p.1) at h.0 h.1 }
-
-  pub loads_misheaded : (e : ReadFault) → (e.line ≡ was.cursor.line + 1) × HeaderFault (codes "loads") 7 7 was.cursor.rest.now e.cause → Fails drilled was e
-  loads_misheaded e h = record { faulty = λ text p at. faulty_line (holing p.0 p.1 (length p.2) p.2) at h.0 (inr (refl, h.1)) }
+-- its fault
+pub misheaded : {X F : Type 0} (from : X → Beginning) {was : Reader} {e : ReadFault} → (e.line ≡ was.cursor.line + 1) × F → ((x : X) → F → LineFault (from x) was.cursor.rest.now e.cause) → Leads from from was (Err e) was
+misheaded from h fault = record { goes = λ text x at. faulty_line (from x) at h.0 (fault x h.1) }

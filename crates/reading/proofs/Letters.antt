@@ -1,11 +1,12 @@
 -- Each load has its own letter and number, and a page marks the letters that stood.
-use Rattle.std.proofs.Common.{◌≡◌, ℕ, ◌<◌, Bool, true, false, ◌⊎◌, List, [], ◌∷◌, get_or, set, ℤ, Some, codes, sym, refl, ap, ◌∙◌, subst, inl, inr, ⊎_elim, arith, length-set}
+use Rattle.std.proofs.Common.{◌≡◌, ℕ, Bool, true, false, ◌⊎◌, List, [], ◌∷◌, get_or, set, ℤ, Some, codes, sym, refl, ap, ◌∙◌, subst, inl, inr, ⊎_elim, arith, length-set}
 use Rattle.std.proofs.lemmas.List.{get_or-set_same, get_or-set_other}
 use Rattle.std.proofs.lemmas.Bool.{both_ways, cases_eq}
 use Rattle.parts.specs.declared.load.LoadKind.{LoadKind}
 use Rattle.parts.specs.declared.load.LoadKind.TheVariants.{Dead, Live, RoofLive, Snow, Rain, Wind, Earthquake}
 use Rattle.parts.specs.LoadKinds.{letter_of, kind_number, kind_of}
 use Rattle.sections.specs.Texts.{Load}
+use Rattle.sections.proofs.Room.{kind_few}
 use Rattle.reading.specs.LineFaults.{Names}
 use Rattle.reading.specs.Stages.{Marks}
 
@@ -28,15 +29,6 @@ letter_once j k e =
 
 pub names_once : {name : List ℕ} (j k : LoadKind) → Names name j → Names name k → j ≡ k
 names_once {name} j k p q = letter_once j k (cc)
-
-pub number_below : (k : LoadKind) → kind_number k < 7
-number_below Dead = omega arith
-number_below Live = omega arith
-number_below RoofLive = omega arith
-number_below Snow = omega arith
-number_below Rain = omega arith
-number_below Wind = omega arith
-number_below Earthquake = omega arith
 
 in_order : (k : LoadKind) → get_or (codes "DLASRWE") (kind_number k) 0 ≡ letter_of k
 in_order Dead = refl
@@ -78,7 +70,7 @@ marks_more seen ps k z m = record {
   fresh = λ j t.
       ⊎_elim
       (λ (e : j ≡ k).
-      let here = get_or-set_same seen (kind_number k) true false (omega (arith, m.seven, number_below k)) in
+      let here = get_or-set_same seen (kind_number k) true false (omega (arith, m.seven, kind_few k)) in
       absurd (both_ways _ (subst (λ (i : LoadKind). get_or (set seen (kind_number k) true) (kind_number i) false ≡ false) e t) here))
       (λ (n : kind_number j ≡ kind_number k → ⊥). ((λ e. n (ap kind_number (sym e))), m.fresh j (sym (get_or-set_other seen (kind_number k) (kind_number j) true false n) ∙ t)))
       (same_or_not j k);

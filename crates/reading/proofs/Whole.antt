@@ -3,19 +3,18 @@ use Rattle.std.proofs.Common.{◌≡◌, ℕ, ◌-◌, ◌≤◌, List, length, 
 use Rattle.std.proofs.lemmas.Result.{err_from_is_err_and}
 use Rattle.sheet.specs.Account.{Account}
 use Rattle.sheet.specs.Kept.{open_account}
-use Rattle.reading.specs.Beginnings.{nothing, written}
+use Rattle.reading.specs.Beginnings.{Beginning, nothing, written}
 use Rattle.reading.specs.Reads.{Accepted, Reads}
 use Rattle.reading.specs.Stages.{At, Leads, at_start, Whole, whole}
 use Rattle.reading.specs.declared.fault.ReadFault.{ReadFault}
 use Rattle.reading.specs.declared.reader.Reader.{Reader}
-use Rattle.reading.proofs.Forward.{Fails}
 
 module _ {text : List ℕ} {was : Reader} (start : At text nothing was) where
-  pub refused : (kept : Account) (r : Result ℕ ReadFault) {e : ReadFault} → Fails at_start was e → IsErrAnd r (λ y. y ≡ e) → Reads text kept r kept
-  refused kept r {e} p is =
+  pub refused : (kept : Account) (r : Result ℕ ReadFault) {Y : Type 0} {by : Y → Beginning} {mid : Reader} {e : ReadFault} → Leads at_start by was (Err e) mid → IsErrAnd r (λ y. y ≡ e) → Reads text kept r kept
+  refused kept r p is =
       let told = err_from_is_err_and r is in
       subst (λ (x : Result ℕ ReadFault). Reads text kept x kept) (sym told.1)
-      (subst (λ (x : ReadFault). Reads text kept (Err x) kept) (sym told.2) (inr (p.faulty text tt start), refl))
+      (subst (λ (x : ReadFault). Reads text kept (Err x) kept) (sym told.2) (inr (p.goes text tt start), refl))
 
   module _ {now : Reader} (p : Leads at_start whole was (Ok tt) now) {left : List ℕ} (same : left ≡ now.cursor.rest.now) where
     reached : (y : Whole) × At text (whole y) now

@@ -36,7 +36,7 @@ size_short M20 = omega arith
 size_short M22 = omega arith
 size_short M24 = omega arith
 
-kind_few : (k : LoadKind) → kind_number k < 7
+pub kind_few : (k : LoadKind) → kind_number k < 7
 kind_few Dead = omega arith
 kind_few Live = omega arith
 kind_few RoofLive = omega arith

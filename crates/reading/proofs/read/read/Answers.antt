@@ -8,7 +8,7 @@ returns-then-text-gt-LONGEST c = record { answer = search rules; once = one_answ
 
 pub returns-in_err-sections : goal.returns-in_err-sections
 returns-in_err-sections c = record {
-  answer = refused c.new-reader.ensures _ _ (record { faulty = c.in_err-sections.ensures.goes }) c.from_residual.ensures.1;
+  answer = refused c.new-reader.ensures _ _ c.in_err-sections.ensures c.from_residual.ensures.1;
   once = one_answer;
 }
 

@@ -1,12 +1,12 @@
 use Rattle.std.proofs.Common.{refl, rules, arith}
-use Rattle.reading.proofs.Forward.{◌then◌, broke, failed, went, lined, told_on}
+use Rattle.reading.proofs.Forward.{◌then◌, broke, answered, lined, told_on}
 use Rattle.reading.proofs.Letters.{marks_none}
 use Rattle.reading.proofs.reader.Reader.load_lines.Goals as goal
 
 pub returns-in_err-map_err : goal.returns-in_err-map_err
 returns-in_err-map_err c =
     let line = c.load_line.ensures c.loop-i._i (omega arith) in
-    broke (failed (c.loop-i.invariant then lined _ line (search (rules, told_on))) c.in_err-map_err.was) c.from_residual.ensures.1
+    broke (answered (c.loop-i.invariant then lined _ line (search (rules, told_on))) c.in_err-map_err.was) c.from_residual.ensures.1
 
 pub loop-i-init : goal.loop-i-init
 loop-i-init c = record {
@@ -16,7 +16,7 @@ loop-i-init c = record {
 pub loop-i-preserved : goal.loop-i-preserved
 loop-i-preserved c =
     let line = c.load_line.ensures c.loop-i._i (omega arith) in
-    went (c.loop-i.invariant then lined _ line (search (rules, told_on))) c.in_ok-map_err.was
+    answered (c.loop-i.invariant then lined _ line (search (rules, told_on))) c.in_ok-map_err.was
 
 pub returns : goal.returns
 returns c = record {
