@@ -1,4 +1,4 @@
-// A line of a page, written piece by piece. This cannot fail; `write!` answers a result that no clause rules out.
+// A line of a page, written piece by piece. It cannot fail; `write!` answers a `Result` whose error no clause rules out.
 ghost use Rattle.std.specs.Prelude.{map};
 ghost use Rattle.text.specs.Drafts.{Adds};
 ghost use Rattle.text.specs.Words.{line};
