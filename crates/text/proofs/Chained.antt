@@ -1,6 +1,6 @@
 -- One text after another on a draft.
-use Rattle.std.proofs.Common.{◌≡◌, ℕ, ◌≤◌, List, [], ◌++◌, length, take, sym, ap, ◌∙◌, subst, arith}
-use Rattle.std.proofs.lemmas.List.{append-nil, take_all, length-take}
+use Rattle.std.proofs.Common.{◌≡◌, ℕ, ◌≤◌, List, [], ◌++◌, length, take, sym, ap, ◌∙◌, subst}
+use Rattle.std.proofs.lemmas.List.{append-nil, take_all}
 use Rattle.text.proofs.Capacity.{capacity}
 use Rattle.text.specs.Drafts.{written, Adds}
 use Rattle.text.specs.declared.draft.Draft.{Draft}
@@ -15,7 +15,7 @@ same {was} {now} e p = subst (λ l. Adds was l now) e p
 
 -- nothing is added
 pub none_added : (d : Draft) → Adds d [] d
-none_added d = record { is = sym (ap (take capacity) (append-nil (written d)) ∙ take_all capacity (written d) (omega (arith, length-take d.len d.bytes, d.room))) }
+none_added d = record { is = sym (ap (take capacity) (append-nil (written d)) ∙ take_all capacity (written d) d.room) }
 
 -- a text that has room stands on an empty draft whole
 pub whole_text : {was now : Draft} {a : List ℕ} → written was ≡ [] → length a ≤ capacity → Adds was a now → written now ≡ a

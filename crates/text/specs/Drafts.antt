@@ -3,7 +3,7 @@ use Rattle.std.specs.Prelude.{◌≡◌, ℕ, ◌<◌, ◌≤◌, List, ◌++◌
 use Rattle.text.specs.declared.draft.Draft.{Draft}
 
 abbrev pub written : Draft → List ℕ
-written d = take d.len d.bytes
+written d = d.bytes.items
 
 -- a is added at the end, as far as there is room
 pub record Adds (was : Draft) (a : List ℕ) (now : Draft) : Type 0 where

@@ -1,14 +1,15 @@
 // A text as it is written, before it is copied to the caller. It holds the first 4,096 bytes.
 ghost use Rattle.std.specs.Prelude.{◌≤◌};
+ghost use Rattle.arrayvec.specs.ArrayVec.{array_vec_len};
 
-mod figures;
 pub mod writes;
+
+use arrayvec::ArrayVec;
 
 const CAPACITY: usize = 4096;
 
-#[derive(Drop)]
+#[derive(Debug, PartialEq, Eq, Drop)]
 pub struct Draft {
-    bytes: [u8; CAPACITY],
-    len: usize,
-    ghost room: { len ≤ 4096 },
+    bytes: ArrayVec<u8, CAPACITY>,
+    ghost room: { array_vec_len bytes ≤ 4096 },
 }

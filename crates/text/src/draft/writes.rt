@@ -4,63 +4,46 @@ ghost use Rattle.std.specs.Fmt.{signed_decimal};
 ghost use Rattle.text.specs.Drafts.{written, Adds, Laid};
 ghost use Rattle.text.specs.Words.{header};
 
-use super::figures::{count_figures, write_figures};
-use super::{CAPACITY, Draft};
+use super::Draft;
+use arrayvec::ArrayVec;
+use itoa::Buffer;
 
 impl Draft {
     pub fn new() -> Draft
         ensures { written result ≡ [] }
     {
         Draft {
-            bytes: [0; CAPACITY],
-            len: 0,
+            bytes: ArrayVec::new(),
         }
     }
 
     pub fn byte(&mut self, b: u8)
         ensures { Adds self.old (b ∷ []) self.new }
     {
-        if self.len < CAPACITY {
-            self.bytes[self.len] = b;
-            self.len += 1;
-        }
+        // A byte past the capacity is left out.
+        let _ = self.bytes.try_push(b);
     }
 
     pub fn word(&mut self, w: &[u8])
         ensures { Adds self.old w.now self.new }
     {
-        let n = w.len().min(CAPACITY - self.len);
-        self.bytes[self.len..self.len + n].copy_from_slice(&w[0..n]);
-        self.len += n;
+        for b in w {
+            self.byte(*b);
+        }
     }
 
     // The number in decimal.
     pub fn number(&mut self, n: u64)
         ensures { Adds self.old (decimal n) self.new }
     {
-        let count = count_figures(n);
-        if count <= CAPACITY - self.len {
-            let end = self.len + count;
-            write_figures(n, &mut self.bytes[self.len..end]);
-            self.len = end;
-        } else {
-            let mut places = [0; 20];
-            let part = &mut places[0..count];
-            write_figures(n, part);
-            self.word(part);
-        }
+        self.word(Buffer::new().format(n).as_bytes());
     }
 
     // The same with a minus sign before a number under 0.
     pub fn signed(&mut self, z: i64)
         ensures { Adds self.old (signed_decimal z) self.new }
     {
-        if z < 0 {
-            self.byte(b'-');
-            self.number(z.unsigned_abs());
-        } else {
-            self.number(z as u64);
-        }
+        self.word(Buffer::new().format(z).as_bytes());
     }
 
     // The first line of a section: its count and its name.
@@ -77,11 +60,11 @@ impl Draft {
     pub fn copy_to(&self, out: &mut [u8]) -> Option<usize>
         ensures { Laid (written self.now) out.old result out.new }
     {
-        let n = self.len;
+        let n = self.bytes.len();
         if n > out.len() {
             return None;
         }
-        out[0..n].copy_from_slice(&self.bytes[0..n]);
+        out[..n].copy_from_slice(self.bytes.as_slice());
         Some(n)
     }
 }

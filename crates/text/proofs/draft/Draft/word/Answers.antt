@@ -1,21 +1,10 @@
-use Rattle.std.proofs.Common.{◌≡◌, ◌+◌, ◌-◌, ◌++◌, length, take, ap, ◌∙◌, arith}
-use Rattle.std.proofs.lemmas.List.{length-take-le}
-use Rattle.std.proofs.lemmas.Slice.{take-put_mid}
-use Rattle.text.proofs.Capacity.{capacity}
-use Rattle.text.specs.Drafts.{written}
-use Rattle.text.proofs.Grown.{fitted}
+use Rattle.std.proofs.Common.{sym}
+use Rattle.std.proofs.lemmas.List.{take_more}
+use Rattle.text.proofs.Chained.{◌then◌, same, none_added}
 use Rattle.text.proofs.draft.Draft.word.Goals as goal
 
-pub returns : goal.returns
-returns c =
-    let d = c.args.self.now in
-    let w = c.args.w.now in
-    let n = c.min-n.result in
-    let all : n - 0 ≡ n = omega arith in
-    let copied = c.copy_from_slice.ensures.after ∙ ap (λ m. take m w) all in
-    let long = length-take-le d.len d.bytes (omega arith) in
-    record {
-      is =
-          take-put_mid d.len _ d.bytes _ (d.len + n) (omega (arith, ap length copied, length-take-le n w (omega arith))) (omega arith)
-          ∙ ap (λ l. written d ++ l) copied ∙ fitted capacity n (written d) w (omega arith) (omega arith);
-    }
+pub loop-b-init : goal.loop-b-init
+loop-b-init c = none_added _
+
+pub loop-b-preserved : goal.loop-b-preserved
+loop-b-preserved c = same (sym (take_more c.args.w.now c.loop-b.b-index 0 c.loop-b-test.true)) (c.loop-b.invariant then c.byte.ensures)
