@@ -1,16 +1,6 @@
 -- Where a text is cut.
-use Rattle.std.proofs.Common.{◌≡◌, ℕ, suc, ◌+◌, ◌-◌, ◌<◌, List, [], ◌∷◌, ◌++◌, length, get_or, take, drop, sym, refl, ap, ◌∙◌, arith, length-append, take-append-drop, length-take}
-use Rattle.std.proofs.lemmas.List.{take_rest, drop_more, get_or-take}
+use Rattle.std.proofs.Common.{◌≡◌, ℕ, suc, List, [], ◌∷◌, ◌++◌, sym, refl, ◌∙◌, arith}
 use Rattle.text.specs.Words.{Lacks, CutAt}
-
-pub cut_at : (t : List ℕ) (i c : ℕ) → i < length t → get_or t i 0 ≡ c → ((k : ℕ) → k < i → get_or t k 0 ≡ c → ⊥) → CutAt c t (take (i - 0) t) (take (length t - (i + 1)) (drop (i + 1) t))
-cut_at t i c h e below =
-    let z : i - 0 ≡ i = omega arith in
-    rw (z, take_rest t (i + 1))
-    (record {
-      is = sym (take-append-drop i t) ∙ ap (λ l. take i t ++ l) (drop_more t i 0 h ∙ ap (λ x. x ∷ drop (i + 1) t) e);
-      first = λ k lt at. let lt' : k < i = omega (arith, simp length-take at lt) in below k lt' (sym (get_or-take i t k 0 lt') ∙ at);
-    })
 
 lacks_tail : (c x : ℕ) (xs : List ℕ) → Lacks c (x ∷ xs) → Lacks c xs
 lacks_tail c x xs h k lt e = h (suc k) (omega arith) e
@@ -33,7 +23,3 @@ no_cut c [] [] b h e = let z : ◌≡◌ {A = ℕ} 0 1 = cc in omega arith
 no_cut c [] (x ∷ a) b h e = let z : ◌≡◌ {A = ℕ} 0 1 = cc in omega arith
 no_cut c (x ∷ t) [] b h e = h 0 (omega arith) (cc)
 no_cut c (x ∷ t) (y ∷ a) b h e = no_cut c t a b (lacks_tail c x t h) (cc)
-
--- what follows is shorter than the text
-pub shorter : {c : ℕ} {t a b : List ℕ} → CutAt c t a b → length b < length t
-shorter {c} {t} {a} {b} p = omega (arith, ap length p.is ∙ length-append a (c ∷ b))

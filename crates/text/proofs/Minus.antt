@@ -1,8 +1,7 @@
 -- A minus sign before figures.
-use Rattle.std.proofs.Common.{◌≡◌, ℕ, suc, ◌-◌, ◌<◌, List, ◌∷◌, length, get_or, take, drop, ℤ, pos, negsuc, ◌-ℤ◌, decimal, sym, ap, ◌∙◌, subst, arith, w32, to_z, of_z}
+use Rattle.std.proofs.Common.{◌≡◌, ℕ, suc, ◌-◌, ◌<◌, List, ◌∷◌, length, get_or, take, drop, ℤ, pos, negsuc, decimal, sym, ap, ◌∙◌, arith}
 use Rattle.std.proofs.lemmas.Str.Parse.{digit_at}
 use Rattle.std.proofs.lemmas.Slice.{first_rest}
-use Rattle.std.proofs.lemmas.Int.{ints}
 use Rattle.text.specs.Figures.{Writes, WritesSigned}
 use Rattle.text.proofs.Figures.{figures, number_once}
 
@@ -19,8 +18,3 @@ no_minus t r e none (negsuc n) w = none (suc n) (omega arith) (w.0, cc)
 
 pub not_zero : (r : List ℕ) → r ≡ decimal 0 → (n : ℕ) → 0 < n → Writes r n → ⊥
 not_zero r e n p w = let s = number_once 0 n (omega arith) w.0 (sym e ∙ w.1) in omega arith
-
-pub minus : (t : List ℕ) (n : ℕ) → 0 < n → n < 1000000000 → t ≡ 45 ∷ decimal n → WritesSigned t (to_z w32 (of_z w32 (pos 0 -ℤ to_z w32 n)))
-minus t n p h e =
-    let z : to_z w32 (of_z w32 (pos 0 -ℤ to_z w32 n)) ≡ negsuc (n - 1) = omega (arith, ints) in
-    subst (WritesSigned t) (sym z) (omega arith, e ∙ ap (λ (m : ℕ). 45 ∷ decimal m) (omega arith))

@@ -1,22 +1,27 @@
 // Numbers on a page: decimal, no leading zero, no plus sign, at most nine digits.
+ghost use Rattle.std.specs.Prelude.{◌≡◌, ◌≤◌, length, MatchOption};
+ghost use Rattle.std.specs.Str.Parse.{digits_value, AllDigits};
 ghost use Rattle.text.specs.Figures.{Tells, TellsSigned};
 
 // The number that `text` writes, where it writes one.
 pub fn number(text: &[u8]) -> Option<u32>
     ensures { Tells text.now result }
 {
-    if text.is_empty() || text.len() > 9 {
-        return None;
+    match text {
+        [] | [b'0', _, ..] => None,
+        _ if text.len() > 9 => None,
+        _ => value(text),
     }
-    if text[0] == b'0' && text.len() > 1 {
-        return None;
-    }
+}
+
+// The value of these digits, where they are digits.
+fn value(digits: &[u8]) -> Option<u32>
+    requires { length digits.now ≤ 9 }
+    ensures { MatchOption result (AllDigits 10 digits.now → ⊥) (λ n. AllDigits 10 digits.now × (n ≡ digits_value 10 digits.now)) }
+{
     let mut n: u32 = 0;
-    for b in text {
-        if !b.is_ascii_digit() {
-            return None;
-        }
-        n = n * 10 + u32::from(*b - b'0');
+    for digit in digits {
+        n = n * 10 + char::from(*digit).to_digit(10)?;
     }
     Some(n)
 }

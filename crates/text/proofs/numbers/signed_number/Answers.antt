@@ -1,5 +1,5 @@
-use Rattle.std.proofs.Common.{◌∷◌, decimal, ap, ◌∙◌, arith, rules}
-use Rattle.text.proofs.Minus.{tail, no_minus, not_zero, minus}
+use Rattle.std.proofs.Common.{decimal, ap, ◌∙◌, rules}
+use Rattle.text.proofs.Minus.{tail, no_minus, not_zero}
 use Rattle.text.proofs.numbers.signed_number.Goals as goal
 
 pub returns-in_err-n : goal.returns-in_err-n
@@ -9,8 +9,3 @@ returns-in_err-n c =
 pub returns-then-n-eq0 : goal.returns-then-n-eq0
 returns-then-n-eq0 c =
     no_minus _ _ (tail c.args.text.now 45 (search rules) (search rules)) (not_zero _ (c.in_ok-n.ensures.1 ∙ ap decimal c.if-n-eq0.true))
-
-pub returns-else-n-eq0 : goal.returns-else-n-eq0
-returns-else-n-eq0 c =
-    minus _ c.in_ok-n.n (omega arith) c.in_ok-n.ensures.0
-    (tail c.args.text.now 45 (search rules) (search rules) ∙ ap (λ l. 45 ∷ l) c.in_ok-n.ensures.1)
