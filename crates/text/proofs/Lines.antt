@@ -16,10 +16,6 @@ begins_once {text} {r} {s} {ws} {vs} p q =
     let c = cut_once p.cut q.cut in
     (pieces_once (spaced ws) ws vs (record { whole = refl; words = p.words }) (record { whole = c.0; words = q.words }), c.1)
 
-pub line_spaced : (ws : List (List ℕ)) → line ws ≡ spaced ws ++ 10 ∷ []
-unfolding line
-line_spaced ws = refl
-
 -- a line's text, with what follows
 pub line_is : {text rest : List ℕ} {ws : List (List ℕ)} → Begins text ws rest → text ≡ line ws ++ rest
 unfolding line

@@ -1,5 +1,5 @@
 -- What the number of a right piece means.
-use Rattle.std.proofs.Common.{◌≡◌, ℕ, ℤ, pos, negsuc, Some, None, sym, ◌∙◌, subst, arith}
+use Rattle.std.proofs.Common.{◌≡◌, ℕ, ℤ, pos, negsuc, None, sym, ◌∙◌, subst, arith}
 use Rattle.text.specs.Figures.{Writes, WritesSigned, Tells, TellsSigned}
 use Rattle.text.specs.Pieces.{said, signed_of, unsigned_of, Right, Sound}
 use Rattle.text.specs.declared.pieces.Piece.{Piece}
@@ -14,19 +14,9 @@ unsigned_means (Number t l (negsuc m)) h = λ n w.
     let z : ◌≡◌ {A = ℕ} 0 1 = cc in
     omega arith
 
--- of a signed one that is what `Right` says
-pub signed_means : (p : Piece) → Right p → TellsSigned (said p) (signed_of p)
-signed_means p h = h
-
 -- the same, as a caller of `unsigned` and `signed` has them
-pub unsigned_some : {at : ℕ} {p : Piece} {n : ℕ} → Sound at p → Some n ≡ unsigned_of p → Writes (said p) n
-unsigned_some {at} {p} {n} s e = subst (Tells (said p)) (sym e) (unsigned_means p s.right)
-
 pub unsigned_none : {at : ℕ} {p : Piece} → Sound at p → None ≡ unsigned_of p → (n : ℕ) → Writes (said p) n → ⊥
 unsigned_none {at} {p} s e = subst (Tells (said p)) (sym e) (unsigned_means p s.right)
-
-pub signed_some : {at : ℕ} {p : Piece} {z : ℤ} → Sound at p → Some z ≡ signed_of p → WritesSigned (said p) z
-signed_some {at} {p} {z} s e = subst (TellsSigned (said p)) (sym e) s.right
 
 pub signed_none : {at : ℕ} {p : Piece} → Sound at p → None ≡ signed_of p → (z : ℤ) → WritesSigned (said p) z → ⊥
 signed_none {at} {p} s e = subst (TellsSigned (said p)) (sym e) s.right

@@ -1,5 +1,5 @@
 -- A line whose first pieces are taken.
-use Rattle.std.proofs.Common.{◌≡◌, ℕ, ◌+◌, ◌≤◌, List, [], ◌∷◌, ◌++◌, map, length, sym, ap, ◌∙◌, subst, append_assoc, arith, length-append}
+use Rattle.std.proofs.Common.{◌≡◌, ℕ, ◌+◌, ◌≤◌, List, [], ◌∷◌, ◌++◌, map, length, sym, ap, ◌∙◌, subst, append_assoc, arith}
 use Rattle.std.proofs.lemmas.List.{map-append}
 use Rattle.std.specs.List.{AllByRecursion}
 use Rattle.text.specs.Words.{CutAt, Word, Spaced, Begun, NotOf}
@@ -8,7 +8,6 @@ use Rattle.text.proofs.Spaces.{NotBegun, not_more}
 
 -- ps are the first of the line's n pieces if the rest is k more, and the line is no n pieces if the rest is no k
 pub record Partway {P : Type 0} (said : P → List ℕ) (is_sound : ℕ → P → Type 0) (n : ℕ) (line : List ℕ) (at : ℕ) (ps : List P) (k : ℕ) (rest : List ℕ) : Type 0 where
-  pub count : length ps + k ≡ n
   pub some : (ws : List (List ℕ)) → length ws ≡ k → Spaced rest ws → Spaced line (map said ps ++ ws)
   pub none : NotOf k rest → NotOf n line
   pub sound : AllByRecursion (is_sound at) ps
@@ -37,7 +36,6 @@ word_first {t} {w} {r} c none v after b =
 
 pub partway_more : {P : Type 0} {said : P → List ℕ} {is_sound : ℕ → P → Type 0} {n at j : ℕ} {line rest after : List ℕ} {ps : List P} {p : P} (k : ℕ) → Partway said is_sound n line at ps j rest → j ≡ k + 1 → 1 ≤ k → Begun rest (said p) after → is_sound at p → Partway said is_sound n line at (ps ++ p ∷ []) k after
 partway_more {P} {said} {is_sound} {n} {at} {j} {line} {rest} {after} {ps} {p} k w e one b right = record {
-  count = omega (arith, length-append ps (p ∷ []), w.count);
   some = λ ws h s.
       subst (Spaced line)
       (sym (ap (λ l. l ++ ws) (map-append said ps (p ∷ [])) ∙ append_assoc (map said ps) (said p ∷ []) ws))

@@ -4,7 +4,7 @@ ghost use Rattle.std.specs.Prelude.{◌≡◌, ◌+◌, ◌^◌, ◌<◌, length
 pub mod lines;
 
 // What is left of the page, and how many lines are taken from it. A line takes at least its end, so their number fits.
-#[derive(Drop)]
+#[derive(Debug, PartialEq, Eq, Drop)]
 pub struct Cursor<'a> {
     rest: &'a [u8],
     line: usize,
