@@ -1,5 +1,5 @@
 -- The answers of a run keep their promises.
-use Rattle.std.proofs.Common.{◌≡◌, ℕ, ◌≤◌, true, List, length, get_or, take, pos, Some, None, Option, sym, ap, ◌∙◌, subst, arith}
+use Rattle.std.proofs.Common.{◌≡◌, ℕ, ◌≤◌, true, List, length, get_or, take, pos, Some, None, Ok, Err, Option, sym, ap, ◌∙◌, subst, arith}
 use Rattle.std.specs.List.{ContainsAt as Has}
 use Rattle.parts.specs.declared.fault.Fault.{Fault}
 use Rattle.parts.specs.Holes.{before}
@@ -16,8 +16,8 @@ use Rattle.archive.specs.Lists.{account_after}
 use Rattle.archive.specs.Promises.{Promised, Keeps, AllKept}
 use Rattle.archive.specs.Replays.{answer_at, Replayed}
 use Rattle.archive.specs.Standing.{Stood, LastLoad}
-use Rattle.archive.specs.declared.call.Answer.{Answer}
-use Rattle.archive.specs.declared.call.Answer.TheVariants.{Accepted, Refused, Judged, Page as PageAnswer, NoRoom}
+use Rattle.archive.specs.Answer.{Answer}
+use Rattle.archive.specs.declared.call.Reply.TheVariants.{Accepted, Judged, Page as PageReply}
 use Rattle.archive.specs.declared.call.Call.{Call}
 use Rattle.archive.specs.declared.call.Call.TheVariants.{Bar, Bolt, Put, Take, Load, Judge, Page, Close, Reopen}
 use Rattle.archive.proofs.Drilling.{holes_stand, holes_ordered}
@@ -52,7 +52,7 @@ module _ (states : Details → List Rated) (calls : List Call) (k : ℕ) (within
       (by.details, by.chain, by.reads, promised by.details by.judgment by.chain by.holds by.sound by.sole)
 
   keeps_paged : (room : ℕ) (t : List ℕ) (r : Answer) → Paged states (account_after (take k calls)) t → PageSaid room t r → Keeps states calls k r
-  keeps_paged room t (PageAnswer bytes) paged said =
+  keeps_paged room t (Ok (PageReply bytes)) paged said =
       let page = paged.page in (
         paged.details,
         page.judgment,
@@ -62,10 +62,9 @@ module _ (states : Details → List Rated) (calls : List Call) (k : ℕ) (within
         said.0 ∙ page.is,
         promised paged.details page.judgment page.chain paged.holds paged.sound page.sole,
       )
-  keeps_paged room t NoRoom paged said = tt
-  keeps_paged room t Accepted paged said = tt
-  keeps_paged room t (Refused f) paged said = tt
-  keeps_paged room t (Judged j slip) paged said = absurd said
+  keeps_paged room t (Ok Accepted) paged said = tt
+  keeps_paged room t (Ok (Judged j slip)) paged said = absurd said
+  keeps_paged room t (Err why) paged said = tt
 
   keeps : (c : Call) (r : Answer) → Gives states (account_after (take k calls)) c r → Keeps states calls k r
   keeps (Bar w t s e) r given = keeps_plain _ r given

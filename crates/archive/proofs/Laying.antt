@@ -1,5 +1,5 @@
 -- A text that is accepted, and an answer that is laid into the buffer.
-use Rattle.std.proofs.Common.{◌≡◌, ℕ, ◌^◌, ◌<◌, ◌≤◌, List, [], ◌∷◌, length, Some, None, Ok, Err, codes, decimal, Result, sym, ap, ◌∙◌, inl, arith, length-append}
+use Rattle.std.proofs.Common.{◌≡◌, ℕ, ◌^◌, ◌<◌, ◌≤◌, List, [], ◌∷◌, length, Some, None, Ok, Err, codes, decimal, Result, MatchResult, is_ok, true≢false, sym, ap, ◌∙◌, subst, inl, arith, length-append}
 use Rattle.sheet.specs.Account.{Account}
 use Rattle.sheet.specs.Calls.{joint_fault}
 use Rattle.limits.specs.Norm.{norm_ratings}
@@ -37,7 +37,11 @@ pub laid_check : (text was now t : List ℕ) (r : Result ℕ NoRoom) → Answers
 laid_check text was now t (Ok n) a l = (t, a, l.0, l.1, l.2)
 laid_check text was now t (Err e) a l = (t, a, l.0, l.1)
 
--- a page of a sheet that can be judged is refused only for want of room
-pub no_room : (text was now : List ℕ) (a : Account) (e : NoRoom) (f : PageFault) → Accepted text (length text) a → joint_fault a ≡ None → Pages norm_ratings a was (Err f) now → Checks text was (Err e) now
-no_room text was now a e (Sheet f) ok free p = let never : Some f ≡ None = sym p.0 ∙ free in absurd (grind (arith, never))
-no_room text was now a e NoPageRoom ok free p = (p.0, inl (a, ok, p.1), p.2, p.3)
+-- what is said of a page, where every refusal is told as want of room: a sheet that can be judged is refused for that alone
+pub page_check : (text was now : List ℕ) (a : Account) (r : Result ℕ PageFault) (s : Result ℕ NoRoom) (Q : PageFault → Type 0)
+    → Accepted text (length text) a → joint_fault a ≡ None → Pages norm_ratings a was r now
+    → MatchResult r (λ n. s ≡ Ok n) Q → is_ok s ≡ is_ok r → Checks text was s now
+page_check text was now a (Ok n) s Q ok free (t, paged, long, fits, laid) is same = subst (λ x. Checks text was x now) (sym is) (t, inl (a, ok, paged), long, fits, laid)
+page_check text was now a (Err f) (Ok n) Q ok free p is same = absurd (true≢false same)
+page_check text was now a (Err (Sheet f)) (Err e) Q ok free p is same = let never : Some f ≡ None = sym p.0 ∙ free in absurd (grind (arith, never))
+page_check text was now a (Err NoPageRoom) (Err e) Q ok free (t, paged, over, kept) is same = (t, inl (a, ok, paged), over, kept)

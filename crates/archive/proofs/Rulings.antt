@@ -1,5 +1,5 @@
 -- What the calls of a sheet promise, as the answers that the rules give.
-use Rattle.std.proofs.Common.{◌≡◌, ℕ, ◌<◌, ◌≤◌, true, false, List, length, take, drop, replicate, Some, None, Ok, Err, vec_items, Option, Result, Vec, sym, refl, ap, ◌∙◌, subst, arith}
+use Rattle.std.proofs.Common.{◌≡◌, ℕ, ◌≤◌, true, false, List, length, take, drop, replicate, Some, None, Ok, vec_items, Option, Vec, sym, refl, ap, ◌∙◌, subst, arith}
 use Rattle.std.specs.declared.alloc.Global.{Global}
 use Rattle.std.proofs.lemmas.List.{take_at}
 use Rattle.parts.specs.declared.fault.Fault.{Fault}
@@ -13,12 +13,10 @@ use Rattle.limits.specs.declared.rated.Rated.{Rated}
 use Rattle.judging.specs.Judging.{Judges}
 use Rattle.judging.specs.declared.judgment.Judgment.{Judgment}
 use Rattle.writing.specs.Pages.{Pages}
-use Rattle.writing.specs.declared.fault.PageFault.{PageFault}
-use Rattle.writing.specs.declared.fault.PageFault.TheVariants.{NoRoom as NoRoomFault}
 use Rattle.archive.specs.Given.{Gives, JudgedBy, PagedBy, Unless}
 use Rattle.archive.specs.States.{Led}
-use Rattle.archive.specs.declared.call.Answer.{Answer}
-use Rattle.archive.specs.declared.call.Answer.TheVariants.{Judged, NoRoom, Page as PageAnswer}
+use Rattle.archive.specs.Answer.{Answer}
+use Rattle.archive.specs.declared.call.Reply.TheVariants.{Judged, Page as PageReply}
 use Rattle.archive.specs.declared.call.Call.{Call}
 use Rattle.archive.specs.declared.call.Call.TheVariants.{Judge, Page}
 use Rattle.archive.specs.declared.state.State.TheVariants.{Opened, Shut}
@@ -28,9 +26,9 @@ after_same None a = refl
 after_same (Some f) a = refl
 
 module _ (states : Details → List Rated) (a : Account) where
-  pub gives_judged : (slip : List ℕ) (j : Judgment) → Judges states a (replicate 32 0) slip (Ok j) → Gives states a Judge (Judged j slip)
+  pub gives_judged : (slip : List ℕ) (j : Judgment) → Judges states a (replicate 32 0) slip (Ok j) → Gives states a Judge (Ok (Judged j slip))
   gives_judged slip j (d, holds, sound, free, tells) =
-      subst (λ f. Unless f (Judged j slip) (JudgedBy states a (Judged j slip))) (sym free)
+      subst (λ f. Unless f (Ok (Judged j slip)) (JudgedBy states a (Ok (Judged j slip)))) (sym free)
       (record {
         details = d;
         holds = holds;
@@ -44,18 +42,11 @@ module _ (states : Details → List Rated) (a : Account) where
         reads = tells.reads;
       })
 
-  pub gives_page : (room n : ℕ) (was now : List ℕ) (bytes : Vec ℕ Global) → length was ≡ room → Pages states a was (Ok n) now → vec_items bytes ≡ take n now → Gives states a (Page room) (PageAnswer bytes)
+  pub gives_page : (room n : ℕ) (was now : List ℕ) (bytes : Vec ℕ Global) → length was ≡ room → Pages states a was (Ok n) now → vec_items bytes ≡ take n now → Gives states a (Page room) (Ok (PageReply bytes))
   gives_page room n was now bytes long (t, paged, count, within, is) e =
       let front : vec_items bytes ≡ t = e ∙ ap (take n) is ∙ take_at t (drop n was) n (sym count) in
       let fits : length t ≤ room = omega arith in
-      subst (λ f. Unless f (PageAnswer bytes) (PagedBy states a room (PageAnswer bytes))) (sym paged.judged) (t, paged, (front, fits))
-
-  pub gives_no_room : (room : ℕ) (was now : List ℕ) (r : Result ℕ PageFault) → length was ≡ room → r ≡ Err NoRoomFault → Pages states a was r now → Gives states a (Page room) NoRoom
-  gives_no_room room was now r long is pages =
-      let said : Pages states a was (Err NoRoomFault) now = subst (λ x. Pages states a was x now) is pages in
-      let paged = said.1 in
-      let over : room < length said.0 = omega (arith, said.2) in
-      subst (λ f. Unless f NoRoom (PagedBy states a room NoRoom)) (sym paged.judged) (said.0, paged, over)
+      subst (λ f. Unless f (Ok (PageReply bytes)) (PagedBy states a room (Ok (PageReply bytes)))) (sym paged.judged) (t, paged, (front, fits))
 
 pub led_judged : (states : Details → List Rated) (s : Open) (r : Answer) → Gives states (open_account s) Judge r → Led states (open_account s) true Judge (Opened s) r
 led_judged states s r given =

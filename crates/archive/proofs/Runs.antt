@@ -1,5 +1,5 @@
 -- A list of calls, one call more at a time.
-use Rattle.std.proofs.Common.{◌≡◌, ℕ, ◌+◌, ◌<◌, true, List, [], ◌∷◌, ◌++◌, length, get_or, take, Some, None, Err, Option, sym, refl, ap, ◌∙◌, subst, arith, below_more}
+use Rattle.std.proofs.Common.{◌≡◌, ℕ, ◌+◌, ◌<◌, true, List, [], ◌∷◌, ◌++◌, length, get_or, take, Some, None, Ok, Err, Option, ok_or, sym, refl, ap, ◌∙◌, subst, arith, below_more}
 use Rattle.std.proofs.lemmas.List.{get_or_append_left, get_or_default, get_or_push, length_push}
 use Rattle.std.proofs.lemmas.List.Sums.{fold_more}
 use Rattle.parts.specs.declared.fault.Fault.{Fault}
@@ -12,12 +12,12 @@ use Rattle.archive.specs.Given.{Gives}
 use Rattle.archive.specs.Lists.{fed, account_after, opens, is_open, takes, call_at, InOrder}
 use Rattle.archive.specs.Replays.{answer_at, Replayed, WrongAt, Replays}
 use Rattle.archive.specs.States.{account_of, opened, Led, Leads}
-use Rattle.archive.specs.declared.call.Answer.{Answer}
-use Rattle.archive.specs.declared.call.Answer.TheVariants.{Accepted}
+use Rattle.archive.specs.Answer.{Answer}
+use Rattle.archive.specs.declared.call.Reply.TheVariants.{Accepted}
 use Rattle.archive.specs.declared.call.Call.{Call}
 use Rattle.archive.specs.declared.call.Call.TheVariants.{Judge}
 use Rattle.archive.specs.declared.call.Halt.{Halt}
-use Rattle.archive.specs.declared.call.Halt.TheVariants.{OutOfOrder, NoMemory}
+use Rattle.archive.specs.declared.call.Halt.TheVariants.{OutOfOrder}
 use Rattle.archive.specs.declared.state.State.{State}
 use Rattle.archive.specs.declared.state.State.TheVariants.{Opened}
 
@@ -61,7 +61,7 @@ module _ (states : Details → List Rated) (calls : List Call) where
         each = λ k h. absurd (omega arith);
       }
 
-  pub ran_more : (i : ℕ) (answers more : List Answer) (s t : State) (d : Call) (r : Answer)
+  ran_more : (i : ℕ) (answers more : List Answer) (s t : State) (d : Call) (r : Answer)
       → Ran states calls i answers s → i < length calls
       → Led states (account_of s) (opened s) (get_or calls i d) t r → more ≡ answers ++ (r ∷ [])
       → Ran states calls (i + 1) more t
@@ -77,22 +77,35 @@ module _ (states : Details → List Rated) (calls : List Call) where
         order = below_more _ _ so.order moved.taken;
         each = below_more _ _
             (λ k h.
-            let kept : answer_at more k ≡ answer_at answers k = ap (λ xs. get_or xs k Accepted) grown ∙ get_or_append_left answers (r ∷ []) Accepted k (omega (arith, so.count)) in
+            let kept : answer_at more k ≡ answer_at answers k = ap (λ xs. get_or xs k (Ok Accepted)) grown ∙ get_or_append_left answers (r ∷ []) (Ok Accepted) k (omega (arith, so.count)) in
             subst (Gives states (account_after (take k calls)) (call_at calls k)) (sym kept) (so.each k h))
-            (subst (Gives states (account_after (take i calls)) x) (sym (ap (λ xs. get_or xs i Accepted) grown ∙ get_or_push answers r Accepted i so.count)) moved.given);
+            (subst (Gives states (account_after (take i calls)) x) (sym (ap (λ xs. get_or xs i (Ok Accepted)) grown ∙ get_or_push answers r (Ok Accepted) i so.count)) moved.given);
       }
 
   pub ran_all : (i : ℕ) (answers : List Answer) (s : State) → length calls ≡ i → Ran states calls i answers s → Replayed states calls answers
   ran_all i answers s n so =
       record { order = λ k h. so.order k (omega arith); each_answered = so.count ∙ sym n; given = λ k h. so.each k (omega arith) }
 
-  -- where a call halts the run
-  pub ran_halts : (i : ℕ) (answers : List Answer) (s : State) (d : Call) (why : Halt)
+  -- a call that is taken
+  pub ran_next : (i : ℕ) (answers more : List Answer) (s : State) (d : Call) (led : Option (State × Answer)) (next : State × Answer)
+      → ok_or led (OutOfOrder i) ≡ Ok next
       → Ran states calls i answers s → i < length calls
-      → Leads states (account_of s) (opened s) (get_or calls i d) i (Err why) → Replays states calls (Err why)
-  ran_halts i answers s d NoMemory so within leads = tt
-  ran_halts i answers s d (OutOfOrder at) so within leads =
+      → Leads states (account_of s) (opened s) (get_or calls i d) (Ok led) → more ≡ answers ++ (next.1 ∷ [])
+      → Ran states calls (i + 1) more next.0
+  ran_next i answers more s d None next e so within wrong grown = absurd (cc)
+  ran_next i answers more s d (Some x) next e so within led grown =
+      let is : x ≡ next = cc in
+      ran_more i answers more s next.0 d next.1 so within (subst (λ y. Led states (account_of s) (opened s) (get_or calls i d) y.0 y.1) is led) grown
+
+  -- the first that is not
+  pub ran_wrong : (i : ℕ) (answers : List Answer) (s : State) (d : Call) (led : Option (State × Answer)) (why : Halt)
+      → ok_or led (OutOfOrder i) ≡ Err why
+      → Ran states calls i answers s → i < length calls
+      → Leads states (account_of s) (opened s) (get_or calls i d) (Ok led) → Replays states calls (Err why)
+  ran_wrong i answers s d (Some next) why e so within led = absurd (cc)
+  ran_wrong i answers s d None why e so within wrong =
       let is = get_or_default calls i d Judge within in
-      let wrong : WrongAt calls i =
-      record { within = within; before = so.order; wrong = (λ j. takes (sym so.standing j) (sym is j)) ∙ leads.0 } in
-      subst (WrongAt calls) (sym leads.1) wrong
+      let at : WrongAt calls i =
+      record { within = within; before = so.order; wrong = (λ j. takes (sym so.standing j) (sym is j)) ∙ wrong } in
+      let why-is : OutOfOrder i ≡ why = cc in
+      subst (λ w. Replays states calls (Err w)) why-is at

@@ -1,7 +1,9 @@
 pub mod Faults
+pub mod Halts
 pub mod Checks
 pub mod Again
 pub mod Lists
+pub mod Answer
 pub mod Given
 pub mod Standing
 pub mod Replays

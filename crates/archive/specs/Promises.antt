@@ -21,8 +21,8 @@ use Rattle.writing.specs.Texts.{page_text}
 use Rattle.archive.specs.Lists.{call_at}
 use Rattle.archive.specs.Replays.{answer_at}
 use Rattle.archive.specs.Standing.{AcceptedAt, Stood, LastLoad}
-use Rattle.archive.specs.declared.call.Answer.{Answer}
-use Rattle.archive.specs.declared.call.Answer.TheVariants.{Accepted, Refused, Judged as JudgedAnswer, Page as PageAnswer, NoRoom}
+use Rattle.archive.specs.Answer.{Answer}
+use Rattle.archive.specs.declared.call.Reply.TheVariants.{Accepted, Judged as JudgedReply, Page as PageReply}
 use Rattle.archive.specs.declared.call.Call.{Call}
 use Rattle.archive.specs.declared.call.Call.TheVariants.{Bar, Bolt}
 use Rattle.archive.specs.declared.call.Halt.{Halt}
@@ -57,14 +57,13 @@ pub record Promised (states : Details → List Rated) (calls : List Call) (k : �
 
 -- an answer that holds a judgment, judge's or a page's, keeps the promises
 abbrev pub Keeps : (Details → List Rated) → List Call → ℕ → Answer → Type 0
-Keeps states calls k (JudgedAnswer j slip) =
+Keeps states calls k (Ok (JudgedReply j slip)) =
     (d : Details) × (chain : List ℕ) × (told slip ≡ reverse chain) × Promised states calls k d j chain
-Keeps states calls k (PageAnswer bytes) =
+Keeps states calls k (Ok (PageReply bytes)) =
     (d : Details) × (j : Judgment) × (chain : List ℕ) × (order : List LoadKind)
     × LoadOrder order × (vec_items bytes ≡ page_text order d j (reverse chain)) × Promised states calls k d j chain
-Keeps states calls k Accepted = Unit {0}
-Keeps states calls k (Refused f) = Unit {0}
-Keeps states calls k NoRoom = Unit {0}
+Keeps states calls k (Ok Accepted) = Unit {0}
+Keeps states calls k (Err why) = Unit {0}
 
 -- every judgment of the run keeps the promises
 abbrev pub AllKept : (Details → List Rated) → List Call → List Answer → Type 0

@@ -5,14 +5,14 @@ use Rattle.sheet.specs.Details.{Details}
 use Rattle.limits.specs.declared.rated.Rated.{Rated}
 use Rattle.archive.specs.Given.{Gives}
 use Rattle.archive.specs.Lists.{account_after, is_open, takes, call_at, InOrder}
-use Rattle.archive.specs.declared.call.Answer.{Answer}
-use Rattle.archive.specs.declared.call.Answer.TheVariants.{Accepted}
+use Rattle.archive.specs.Answer.{Answer}
+use Rattle.archive.specs.declared.call.Reply.TheVariants.{Accepted}
 use Rattle.archive.specs.declared.call.Call.{Call}
 use Rattle.archive.specs.declared.call.Halt.{Halt}
 use Rattle.archive.specs.declared.call.Halt.TheVariants.{OutOfOrder, NoMemory}
 
 abbrev pub answer_at : List Answer → ℕ → Answer
-answer_at answers k = slice_index_or answers k Accepted
+answer_at answers k = slice_index_or answers k (Ok Accepted)
 
 -- as many answers as calls, and at each place the one that the rules give for the call there and the account of the calls before it
 pub record Replayed (states : Details → List Rated) (calls : List Call) (answers : List Answer) : Type 0 where

@@ -1,15 +1,14 @@
 -- inner: What one call makes of a sheet that is open or closed.
-use Rattle.std.specs.Prelude.{◌≡◌, ℕ, Bool, true, false, List, Ok, Err, Result}
+use Rattle.std.specs.Prelude.{◌≡◌, Bool, true, false, List, Some, None, Ok, Err, Option, Result}
+use Rattle.std.specs.declared.alloc.AllocError.{AllocError}
 use Rattle.sheet.specs.Account.{Account}
 use Rattle.sheet.specs.Details.{Details}
 use Rattle.sheet.specs.Kept.{open_account, closed_account}
 use Rattle.limits.specs.declared.rated.Rated.{Rated}
 use Rattle.archive.specs.Given.{Gives}
 use Rattle.archive.specs.Lists.{fed, opens, takes}
-use Rattle.archive.specs.declared.call.Answer.{Answer}
+use Rattle.archive.specs.Answer.{Answer}
 use Rattle.archive.specs.declared.call.Call.{Call}
-use Rattle.archive.specs.declared.call.Halt.{Halt}
-use Rattle.archive.specs.declared.call.Halt.TheVariants.{OutOfOrder, NoMemory}
 use Rattle.archive.specs.declared.state.State.{State}
 use Rattle.archive.specs.declared.state.State.TheVariants.{Opened, Shut}
 
@@ -29,7 +28,7 @@ pub record Led (states : Details → List Rated) (a : Account) (b : Bool) (c : C
   pub given : Gives states a c r
 
 -- a call on an open (true) or a closed sheet
-abbrev pub Leads : (Details → List Rated) → Account → Bool → Call → ℕ → Result (State × Answer) Halt → Type 0
-Leads states a b c place (Ok next) = Led states a b c next.0 next.1
-Leads states a b c place (Err (OutOfOrder at)) = (takes b c ≡ false) × (at ≡ place)
-Leads states a b c place (Err NoMemory) = Unit {0}
+abbrev pub Leads : (Details → List Rated) → Account → Bool → Call → Result (Option (State × Answer)) AllocError → Type 0
+Leads states a b c (Ok (Some next)) = Led states a b c next.0 next.1
+Leads states a b c (Ok None) = takes b c ≡ false
+Leads states a b c (Err e) = Unit {0}

@@ -1,12 +1,14 @@
-// The nine calls of a sheet with their arguments, and what each may answer.
-ghost use Rattle.std.specs.Prelude.{◌≡◌};
+// The nine calls of a sheet with their arguments, and what each answers: a reply, or why there is none.
+ghost use Rattle.std.specs.Prelude.{◌≡◌, Some};
+ghost use Rattle.archive.specs.Halts.{halt_text};
 ghost use Rattle.archive.specs.declared.call.Halt.TheVariants.{NoMemory};
 
 use judging::judgment::Judgment;
-use parts::fault::Fault;
 use std::alloc::{AllocError, AllocFailed};
+use std::fmt;
+use writing::fault::PageFault;
 
-#[derive(Clone, Copy)]
+#[derive(Clone, Copy, Debug, PartialEq, Eq)]
 pub enum Call {
     Bar {
         width: u32,
@@ -42,23 +44,38 @@ pub enum Call {
 }
 
 #[derive(Drop)]
-pub enum Answer {
+pub enum Reply {
     Accepted,
-    Refused(Fault),
     // With the least chain on the slip.
     Judged { judgment: Judgment, slip: [u8; 32] },
     // The page's bytes.
     Page(Vec<u8>),
-    // The page does not fit.
-    NoRoom,
 }
 
+// The refusal of a call is the sheet's own, or that the page does not fit.
+pub type Answer = Result<Reply, PageFault>;
+
 // Why a list is not replayed to its end.
-#[derive(Clone, Copy)]
+#[derive(Clone, Copy, Debug, PartialEq, Eq)]
 pub enum Halt {
     // An open sheet does not take the call at this place, or a closed one.
     OutOfOrder { place: usize },
     NoMemory,
+}
+
+impl fmt::Display for Halt {
+    ghost output = { λ halt. Some (halt_text halt) };
+
+    fn fmt<W: fmt::Write>(&self, f: &mut fmt::Formatter<W>) -> fmt::Result {
+        match self {
+            Halt::OutOfOrder { place } => write!(
+                f,
+                "out of order: call {}",
+                place.saturating_add(1)
+            ),
+            Halt::NoMemory => write!(f, "no memory"),
+        }
+    }
 }
 
 impl From<AllocError> for Halt {

@@ -17,17 +17,12 @@ fn sheet_of(text: &[u8]) -> Result<Closed, CheckFault>
     ensures { Sheets text.now result }
 {
     let mut open = Open::new();
-    let taken = match read(&mut open, text) {
-        Ok(taken) => taken,
-        Err(fault) => return Err(CheckFault::Read(fault)),
-    };
+    let taken = read(&mut open, text)?;
     if taken != text.len() {
         let line = open.sheet().row().len() + 14;
         return Err(CheckFault::Trailing { line });
     }
-    if let Err(fault) = Joint::of(open.sheet()) {
-        return Err(CheckFault::Sheet(fault));
-    }
+    Joint::of(open.sheet())?;
     Ok(open.close())
 }
 
@@ -56,10 +51,7 @@ fn refusal_line(fault: CheckFault) -> Draft
 fn write_refusal(fault: CheckFault, out: &mut [u8]) -> Result<usize, NoRoom>
     ensures { Lays (refused_line fault) out.old result out.new }
 {
-    match refusal_line(fault).copy_to(out) {
-        Some(n) => Ok(n),
-        None => Err(NoRoom),
-    }
+    refusal_line(fault).copy_to(out).ok_or(NoRoom)
 }
 
 // Reads the text, judges it by the norm's limit states and writes its page to the front of `out`; or the refused line.
@@ -68,10 +60,7 @@ pub fn check(text: &[u8], out: &mut [u8]) -> Result<usize, NoRoom>
     ensures again { PagesReadAgain }
 {
     match sheet_of(text) {
+        Ok(sheet) => page(&sheet, &norm(), out).map_err(|_| NoRoom),
         Err(fault) => write_refusal(fault, out),
-        Ok(sheet) => match page(&sheet, &norm(), out) {
-            Ok(n) => Ok(n),
-            Err(_) => Err(NoRoom),
-        },
     }
 }

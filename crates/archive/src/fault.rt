@@ -1,6 +1,7 @@
 // Why a text is no sheet that can be judged.
 ghost use Rattle.std.specs.Prelude.{◌≡◌};
 ghost use Rattle.archive.specs.Faults.{check_number, check_layer, check_line};
+ghost use Rattle.archive.specs.declared.fault.CheckFault.TheVariants.{Read, Sheet};
 
 use parts::fault::Fault;
 use reading::fault::{Layer, ReadFault};
@@ -13,6 +14,22 @@ pub enum CheckFault {
     Trailing { line: usize },
     // What the sheet says, whole; no line is meant.
     Sheet(Fault),
+}
+
+impl From<ReadFault> for CheckFault {
+    ghost from_gives = { λ fault r. r ≡ Read fault };
+
+    fn from(fault: ReadFault) -> Self {
+        Self::Read(fault)
+    }
+}
+
+impl From<Fault> for CheckFault {
+    ghost from_gives = { λ fault r. r ≡ Sheet fault };
+
+    fn from(fault: Fault) -> Self {
+        Self::Sheet(fault)
+    }
 }
 
 impl CheckFault {
@@ -50,5 +67,5 @@ impl CheckFault {
 }
 
 // The page, or the refused line, does not fit the buffer.
-#[derive(Clone, Copy)]
+#[derive(Clone, Copy, Debug, PartialEq, Eq)]
 pub struct NoRoom;

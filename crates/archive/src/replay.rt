@@ -5,7 +5,7 @@ ghost use Rattle.archive.specs.Standing.{HolesStand, LoadsLast};
 
 use crate::call::{Answer, Call, Halt};
 use crate::state::State;
-use crate::step::step;
+use crate::step::Replayer;
 use limits::bank::Bank;
 use sheet::Open;
 use std::alloc::Global;
@@ -17,10 +17,12 @@ pub fn replay<B: Bank>(heap: Global, bank: &B, calls: &[Call]) -> Result<Vec<Ans
     ensures loads { LoadsLast }
     ensures promises { Promises (B.rated bank.now) calls.now result }
 {
+    let replayer = Replayer { bank, heap };
     let mut answers = Vec::new(heap);
     let mut state = State::Opened(Open::new());
     for (place, call) in calls.iter().enumerate() {
-        let (next, answer) = step(heap, bank, state, place, *call)?;
+        let led = replayer.step(state, *call)?;
+        let (next, answer) = led.ok_or(Halt::OutOfOrder { place })?;
         state = next;
         answers.push(answer)?;
     }

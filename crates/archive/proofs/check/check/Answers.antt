@@ -1,7 +1,7 @@
-use Rattle.std.proofs.Common.{refl, inl, inr}
+use Rattle.std.proofs.Common.{refl, inr}
 use Rattle.sheet.specs.Kept.{closed_account}
 use Rattle.archive.proofs.Again.{pages_read_again}
-use Rattle.archive.proofs.Laying.{laid_check, no_room}
+use Rattle.archive.proofs.Laying.{laid_check, page_check}
 use Rattle.archive.proofs.check.check.Goals as goal
 
 pub returns-in-Err : goal.returns-in-Err
@@ -11,19 +11,9 @@ returns-in-Err c =
       again = pages_read_again;
     }
 
-pub returns-in-Ok-page : goal.returns-in-Ok-page
-returns-in-Ok-page c =
-    let ok = c.in-Ok.ensures in
-    let paged = c.in-Ok-page.ensures in
+pub returns-in-Ok : goal.returns-in-Ok
+returns-in-Ok c =
     record {
-      answer = (paged.0, inl (closed_account c.in-Ok.sheet, ok.0, paged.1), paged.2, paged.3, paged.4);
-      again = pages_read_again;
-    }
-
-pub returns-in-Err-page : goal.returns-in-Err-page
-returns-in-Err-page c =
-    let ok = c.in-Ok.ensures in
-    record {
-      answer = no_room c.args.text.now c.args.out.now c.page.new.out (closed_account c.in-Ok.sheet) _ c.in-Err-page.field-0 ok.0 ok.1 c.in-Err-page.ensures;
+      answer = page_check c.args.text.now c.args.out.now c.page.new.out (closed_account c.in-Ok.sheet) c.page.result _ _ c.in-Ok.ensures.0 c.in-Ok.ensures.1 c.page.ensures c.map_err.ensures.cases c.map_err.ensures.variant;
       again = pages_read_again;
     }

@@ -5,22 +5,26 @@ use Rattle.archive.specs.Replays.{Replays}
 use Rattle.archive.proofs.Drilling.{holes_stand}
 use Rattle.archive.proofs.Kept.{all_kept}
 use Rattle.archive.proofs.Loading.{loads_last}
-use Rattle.archive.proofs.Runs.{ran_none, ran_more, ran_all, ran_halts}
+use Rattle.archive.proofs.Runs.{ran_none, ran_next, ran_all, ran_wrong}
 use Rattle.archive.proofs.replay.replay.Goals as goal
 
 pub loop-place-init : goal.loop-place-init
 loop-place-init g c = ran_none _ _ _ _ c.new-answers.ensures.items c.new.ensures
 
+pub returns-in_err-led : goal.returns-in_err-led
+returns-in_err-led g c = record { replays = search rules; holes = holes_stand; loads = loads_last; promises = search rules }
+
 pub returns-in_err-next : goal.returns-in_err-next
 returns-in_err-next g c =
-    let p = err_from_is_err_and c.from_residual.result c.from_residual.ensures.1 in
-    let halts = ran_halts _ _ _ _ _ _ c.in_err-next.field-0.0 c.loop-place.invariant c.loop-place-test.true c.in_err-next.ensures in
+    let p = err_from_is_err_and c.from_residual-in_err-next.result c.from_residual-in_err-next.ensures.1 in
+    let out = sym c.ok_or.ensures.value ∙ c.in_err-next.was in
+    let halts = ran_wrong _ _ _ _ _ _ _ _ out c.loop-place.invariant c.loop-place-test.true c.in_ok-led.ensures in
     let is = sym (p.1 ∙ ap Err p.2) in
     record { replays = subst (Replays _ _) is halts; holes = holes_stand; loads = loads_last; promises = subst (Promises _ _) is tt }
 
 pub loop-place-preserved : goal.loop-place-preserved
 loop-place-preserved g c =
-    ran_more _ _ _ _ _ _ _ _ _ c.loop-place.invariant c.loop-place-test.true c.in_ok-next.ensures c.in_ok-push.ensures.items
+    ran_next _ _ _ _ _ _ _ _ _ (sym c.ok_or.ensures.value ∙ c.in_ok-next.was) c.loop-place.invariant c.loop-place-test.true c.in_ok-led.ensures c.in_ok-push.ensures.items
 
 pub returns : goal.returns
 returns g c =

@@ -1,6 +1,6 @@
 use Rattle.std.proofs.Common.{rules}
 use Rattle.archive.proofs.Rulings.{led_judged}
-use Rattle.archive.proofs.step.at_open.Goals as goal
+use Rattle.archive.proofs.step.Replayer.at_open.Goals as goal
 
 pub returns : goal.returns
 returns g c =
