@@ -10,8 +10,5 @@ use archive::check::check;
 pub fn wurgelzit_check(text: &[u8], out: &mut [u8]) -> usize
     ensures { Told text.now out.old result out.new }
 {
-    match check(text, out) {
-        Ok(n) => n,
-        Err(_) => usize::MAX,
-    }
+    check(text, out).unwrap_or(usize::MAX)
 }
