@@ -1,7 +1,7 @@
 // Reads a sheet from standard input, and writes its page or the refused line.
 #![tactic(auto)]
 
-ghost use Rattle.std.specs.Prelude.{◌≤◌, IfOk};
+ghost use Rattle.std.specs.Prelude.{◌≤◌, length, IfOk};
 
 use archive::check::check;
 use std::io;
@@ -10,31 +10,22 @@ use std::io::{Read, Write};
 // One byte more than a sheet may have.
 const MOST: usize = 4097;
 
-// As much of the input as tells whether it is too long, and how much that is.
-fn read_input(rt: &HostRuntime, text: &mut [u8; MOST]) -> io::Result<usize>
-    ensures { IfOk result (λ n. n ≤ 4097) }
+// As much of the input as tells whether it is too long, in whatever parts it comes.
+fn read_input<'a>(rt: &HostRuntime, text: &'a mut [u8; MOST]) -> io::Result<&'a [u8]>
+    ensures { IfOk result (λ t. length t.now ≤ 4097) }
 {
-    let mut input = rt.stdin();
-    let mut len = 0;
-    for _ in 0..MOST {
-        if len >= MOST {
-            break;
-        }
-        let n = input.read(&mut text[len..])?;
-        if n == 0 {
-            break;
-        }
-        len += n;
-    }
-    Ok(len)
+    let mut input = rt.stdin().take(MOST as u64);
+    let mut room = &mut text[..];
+    let count = io::copy(&mut input, &mut room)?;
+    Ok(&text[..MOST.min(count as usize)])
 }
 
 fn main(rt: HostRuntime) -> io::Result<()> {
-    let mut text = [0; MOST];
-    let len = read_input(&rt, &mut text)?;
+    let mut buffer = [0; MOST];
+    let text = read_input(&rt, &mut buffer)?;
     let mut out = [0; 4096];
-    match check(&text[0..len], &mut out) {
-        Ok(n) => rt.stdout().write_all(&out[0..n]),
+    match check(text, &mut out) {
+        Ok(n) => rt.stdout().write_all(&out[..n]),
         Err(_) => rt.eprintln("the page does not fit"),
     }
 }
