@@ -1,42 +1,31 @@
 // The refusals that the calls of a sheet give, each on an example, in the order of their table.
 use judging::judge::judge;
+use judging::judgment::Judgment;
 use limits::norm::norm;
 use parts::fault::Fault;
 use sheet::Open;
+use std::fmt::Display;
 use std::io;
+use writing::fault::PageFault;
 use writing::page::page;
 
-fn tell(rt: &HostRuntime, example: &str, said: Result<(), Fault>) -> io::Result<()> {
+fn tell<T: Drop, E: Display + Drop>(
+    rt: &HostRuntime,
+    example: &str,
+    said: Result<T, E>,
+) -> io::Result<()> {
     match said {
-        Ok(()) => println!(rt; "{example}: accepted"),
-        Err(fault) => {
-            let number = fault.number();
-            match fault {
-                Fault::TooClose { hole } => println!(rt;
-                    "{example}: refused {number}, too close to hole {hole}"
-                ),
-                _ => println!(rt; "{example}: refused {number}"),
-            }
-        }
-    }
-}
-
-fn tell_judge(rt: &HostRuntime, example: &str, sheet: &Open) -> io::Result<()> {
-    let mut slip = [0; 32];
-    match judge(sheet, &norm(), &mut slip) {
-        Ok(_) => tell(rt, example, Ok(())),
-        Err(fault) => tell(rt, example, Err(fault)),
-    }
-}
-
-fn tell_page(rt: &HostRuntime, example: &str, sheet: Open, out: &mut [u8]) -> io::Result<()> {
-    match page(&sheet.close(), &norm(), out) {
         Ok(_) => println!(rt; "{example}: accepted"),
-        Err(fault) => {
-            let number = fault.number();
-            println!(rt; "{example}: refused {number}")
-        }
+        Err(fault) => println!(rt; "{example}: {fault}"),
     }
+}
+
+fn judged(sheet: Open) -> Result<Judgment, Fault> {
+    judge(&sheet, &norm(), &mut [0; 32])
+}
+
+fn paged(sheet: Open, out: &mut [u8]) -> Result<usize, PageFault> {
+    page(&sheet.close(), &norm(), out)
 }
 
 // A bar of 200 mm with edge distance 30, and M20 bolts.
@@ -74,8 +63,12 @@ fn tell_bars_and_bolts(rt: &HostRuntime) -> io::Result<()> {
 
 fn tell_holes(rt: &HostRuntime) -> io::Result<()> {
     tell(rt, "put on a new sheet", Open::new().put(40, 50, 22))?;
-    tell_judge(rt, "judge on a new sheet", &Open::new())?;
-    tell_page(rt, "page of a new sheet", Open::new(), &mut [0; 4096])?;
+    tell(rt, "judge on a new sheet", judged(Open::new()))?;
+    tell(
+        rt,
+        "page of a new sheet",
+        paged(Open::new(), &mut [0; 4096]),
+    )?;
     tell(rt, "the 33rd hole", all_holes().put(40, 170, 22))?;
     tell(rt, "M20, diameter 29", bar_and_bolt().put(40, 50, 29))?;
     tell(rt, "edge 30, y = 29", bar_and_bolt().put(40, 29, 22))?;
@@ -102,15 +95,14 @@ fn tell_loads(rt: &HostRuntime) -> io::Result<()> {
 }
 
 fn tell_judgments(rt: &HostRuntime) -> io::Result<()> {
-    tell_judge(rt, "judge with bar and bolt only", &bar_and_bolt())?;
-    tell_page(
+    tell(rt, "judge with bar and bolt only", judged(bar_and_bolt()))?;
+    tell(
         rt,
         "page with bar and bolt only",
-        bar_and_bolt(),
-        &mut [0; 4096],
+        paged(bar_and_bolt(), &mut [0; 4096]),
     )?;
-    tell_page(rt, "page in 10 bytes", one_hole(), &mut [0; 10])?;
-    tell_page(rt, "page in 4,096 bytes", one_hole(), &mut [0; 4096])
+    tell(rt, "page in 10 bytes", paged(one_hole(), &mut [0; 10]))?;
+    tell(rt, "page in 4,096 bytes", paged(one_hole(), &mut [0; 4096]))
 }
 
 pub(crate) fn tell_all(rt: &HostRuntime) -> io::Result<()> {
