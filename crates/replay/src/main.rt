@@ -6,35 +6,51 @@ use archive::replay::replay;
 use limits::bank::{Both, Only};
 use limits::norm::norm;
 use sample::PerWidth;
+use std::alloc::{AllocError, Global};
+use std::fmt;
 
 mod parse;
 mod tell;
 
-use parse::call_in;
+use parse::call_of;
 use tell::tell;
 
-// The calls of the input, and the lines as they stood; or the number of the first line that is no call.
-fn calls_of(
-    rt: &HostRuntime,
-    calls: &mut Vec<Call>,
-    lines: &mut Vec<String>,
-) -> anyhow::Result<Option<usize>> {
-    let mut number = 0usize;
+// A line that is no call, by its number from 1.
+#[derive(Drop)]
+struct NoCall {
+    line: usize,
+}
+
+impl fmt::Display for NoCall {
+    fn fmt<W: fmt::Write>(&self, f: &mut fmt::Formatter<W>) -> fmt::Result {
+        write!(f, "line {} is no call", self.line)
+    }
+}
+
+fn lines_of(rt: &HostRuntime) -> anyhow::Result<Vec<String>> {
+    let mut lines = Vec::new(rt.alloc());
     for line in rt.lines(rt.alloc()) {
-        let line = line?;
-        number = number.saturating_add(1);
-        let Some(call) = call_in(line.as_str()) else {
-            return Ok(Some(number));
+        lines.push(line?)?;
+    }
+    Ok(lines)
+}
+
+// The call that each line is; or the first line that is none.
+fn calls_of(heap: Global, lines: &[String]) -> Result<Result<Vec<Call>, NoCall>, AllocError> {
+    let mut calls = Vec::new(heap);
+    for (i, line) in lines.iter().enumerate() {
+        let words = line.as_str().split(' ').collect::<Vec<&str>>(heap)?;
+        let Some(call) = call_of(words.as_slice()) else {
+            return Ok(Err(NoCall { line: i + 1 }));
         };
         calls.push(call)?;
-        lines.push(line)?;
     }
-    Ok(None)
+    Ok(Ok(calls))
 }
 
 fn tell_all(
     rt: &HostRuntime,
-    lines: &Vec<String>,
+    lines: &[String],
     answers: Result<Vec<Answer>, Halt>,
 ) -> anyhow::Result<()> {
     match answers {
@@ -43,29 +59,28 @@ fn tell_all(
                 tell(rt, line.as_str(), answer)?;
             }
         }
-        Err(Halt::OutOfOrder { place }) => println!(rt;
-            "out of order: call {}",
-            place.saturating_add(1)
-        )?,
-        Err(Halt::NoMemory) => println!(rt; "no memory")?,
+        Err(halt) => println!(rt; "{halt}")?,
     }
     Ok(())
 }
 
 fn main(rt: HostRuntime) -> anyhow::Result<()> {
     let heap = rt.alloc();
-    let mut calls = Vec::new(heap);
-    let mut lines = Vec::new(heap);
-    if let Some(number) = calls_of(&rt, &mut calls, &mut lines)? {
-        println!(rt; "line {number} is no call")?;
-        return Ok(());
-    }
+    let lines = lines_of(&rt)?;
+    let calls = match calls_of(heap, lines.as_slice())? {
+        Ok(calls) => calls,
+        Err(no_call) => return Ok(println!(rt; "{no_call}")?),
+    };
     println!(rt; "by the norm")?;
-    tell_all(&rt, &lines, replay(heap, &norm(), calls.as_slice()))?;
+    tell_all(
+        &rt,
+        lines.as_slice(),
+        replay(heap, &norm(), calls.as_slice()),
+    )?;
     println!(rt; "by the norm and one limit state more")?;
     let bank = Both {
         first: norm(),
         second: Only(PerWidth),
     };
-    tell_all(&rt, &lines, replay(heap, &bank, calls.as_slice()))
+    tell_all(&rt, lines.as_slice(), replay(heap, &bank, calls.as_slice()))
 }

@@ -1,54 +1,47 @@
 // What a call answered, in print.
-use archive::call::Answer;
+use archive::call::{Answer, Reply};
 use judging::judgment::Judgment;
-use parts::fault::Fault;
-use std::io;
 use std::io::Write;
+use std::{fmt, io};
 
-fn tell_refusal(rt: &HostRuntime, line: &str, fault: Fault) -> io::Result<()> {
-    let number = fault.number();
-    match fault {
-        Fault::TooClose { hole } => println!(rt;
-            "{line}: refused {number}, too close to hole {hole}"
-        ),
-        _ => println!(rt; "{line}: refused {number}"),
-    }
+// A judgment's figures, and the least chain on the slip.
+#[derive(Clone, Copy)]
+struct Figures<'a> {
+    judgment: &'a Judgment,
+    slip: &'a [u8; 32],
 }
 
-fn tell_judgment(
-    rt: &HostRuntime,
-    line: &str,
-    judgment: &Judgment,
-    slip: &[u8; 32],
-) -> io::Result<()> {
-    let kind = judgment.kind.number();
-    let row = judgment.row;
-    let state = judgment.state;
-    print!(rt; "{line}: {kind} {row} {state}")?;
-    let greatest = judgment.greatest.0;
-    let strength = judgment.strength.0;
-    let net_width = judgment.net_width.0;
-    let least = judgment.least.0;
-    print!(rt; " {greatest} {strength} {net_width} {least}, chain")?;
-    for number in slip {
-        if *number == 0 {
-            break;
+impl fmt::Display for Figures<'_> {
+    fn fmt<W: fmt::Write>(&self, f: &mut fmt::Formatter<W>) -> fmt::Result {
+        let Figures { judgment, slip } = *self;
+        write!(
+            f,
+            "{} {} {} {} {} {} {}, chain",
+            judgment.kind.number(),
+            judgment.row,
+            judgment.state,
+            judgment.greatest.0,
+            judgment.strength.0,
+            judgment.net_width.0,
+            judgment.least.0,
+        )?;
+        for number in slip.iter().take_while(|n| **n != 0) {
+            write!(f, " {number}")?;
         }
-        print!(rt; " {number}")?;
+        Ok(())
     }
-    println!(rt; "")
 }
 
 pub fn tell(rt: &HostRuntime, line: &str, answer: &Answer) -> io::Result<()> {
     match answer {
-        Answer::Accepted => println!(rt; "{line}: accepted"),
-        Answer::Refused(fault) => tell_refusal(rt, line, *fault),
-        Answer::Judged { judgment, slip } => tell_judgment(rt, line, judgment, slip),
-        Answer::Page(bytes) => {
-            let n = bytes.len();
-            println!(rt; "{line}: {n} bytes")?;
+        Ok(Reply::Accepted) => println!(rt; "{line}: accepted"),
+        Ok(Reply::Judged { judgment, slip }) => {
+            println!(rt; "{line}: {}", Figures { judgment, slip })
+        }
+        Ok(Reply::Page(bytes)) => {
+            println!(rt; "{line}: {} bytes", bytes.len())?;
             rt.stdout().write_all(bytes.as_slice())
         }
-        Answer::NoRoom => println!(rt; "{line}: refused 20"),
+        Err(fault) => println!(rt; "{line}: {fault}"),
     }
 }
