@@ -1,19 +1,12 @@
 // The least chain on examples.
+use crate::sheets::bolted;
 use chains::{least_chain, net_width};
-use sheet::{Joint, Open};
+use sheet::Joint;
 use std::test::Fail;
-
-// A sheet with bar and bolt.
-fn bolted() -> Result<Open, Fail> {
-    let mut sheet = Open::new();
-    sheet.bar(200, 12, 1, 30)?;
-    sheet.bolt(2, 330, 1)?;
-    Ok(sheet)
-}
 
 #[test]
 fn names_all_three(rt: HostRuntime) -> Result<(), Fail> {
-    let mut open = bolted()?;
+    let mut open = bolted(30)?;
     open.put(40, 50, 22)?;
     open.put(80, 100, 22)?;
     open.put(40, 150, 22)?;
@@ -32,7 +25,7 @@ fn names_all_three(rt: HostRuntime) -> Result<(), Fail> {
 
 #[test]
 fn names_the_first_of_equals(rt: HostRuntime) -> Result<(), Fail> {
-    let mut open = bolted()?;
+    let mut open = bolted(30)?;
     open.put(40, 50, 22)?;
     open.put(112, 104, 22)?;
     let mut slip = [9; 32];

@@ -10,4 +10,6 @@ mod page_text;
 #[cfg(test)]
 mod sheet_calls;
 #[cfg(test)]
+mod sheets;
+#[cfg(test)]
 mod strengths;

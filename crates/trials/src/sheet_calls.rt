@@ -1,9 +1,11 @@
 // The calls of a sheet, and their refusals, on examples.
+use crate::sheets::bolted;
 use parts::fault::Fault;
 use sheet::Open;
-use std::process::Abort;
+use std::test::Fail;
 
-fn bolted(rt: &impl Abort) -> Open {
+#[test]
+fn bar_and_bolt_are_set(rt: HostRuntime) {
     let mut sheet = Open::new();
     assert_eq!(rt; sheet.put(40, 50, 22), Err(Fault::NoBarOrBolt));
     assert_eq!(rt; sheet.bar(49, 12, 7, 30), Err(Fault::UnknownSteel));
@@ -13,12 +15,11 @@ fn bolted(rt: &impl Abort) -> Open {
     assert_eq!(rt; sheet.bolt(5, 330, 1), Err(Fault::UnknownSize));
     assert_eq!(rt; sheet.bolt(2, 330, 3), Err(Fault::OutOfRange));
     assert_eq!(rt; sheet.bolt(2, 330, 1), Ok(()));
-    sheet
 }
 
 #[test]
-fn holes_are_put_and_taken(rt: HostRuntime) {
-    let mut sheet = bolted(&rt);
+fn holes_are_put_and_taken(rt: HostRuntime) -> Result<(), Fail> {
+    let mut sheet = bolted(30)?;
     assert_eq!(rt; sheet.put(40, 50, 22), Ok(()));
     assert_eq!(rt; sheet.put(40, 103, 22), Err(Fault::TooClose { hole: 1 }));
     assert_eq!(rt; sheet.put(40, 104, 22), Ok(()));
@@ -28,6 +29,7 @@ fn holes_are_put_and_taken(rt: HostRuntime) {
     assert_eq!(rt; sheet.take(40, 51), Err(Fault::NoHoleThere));
     assert_eq!(rt; sheet.take(40, 50), Ok(()));
     assert_eq!(rt; sheet.put(40, 103, 22), Err(Fault::TooClose { hole: 1 }));
+    Ok(())
 }
 
 #[test]

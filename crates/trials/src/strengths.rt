@@ -1,24 +1,17 @@
 // The norm's four strengths on examples.
+use crate::sheets::bolted;
 use limits::bank::Bank;
 use limits::bearing_lines::BearingLines;
 use limits::bolt_group::BoltGroup;
 use limits::chain_search::ChainSearch;
 use limits::gross_yielding::GrossYielding;
 use limits::limit_state::LimitState;
-use parts::fault::Fault;
-use sheet::{Joint, Open};
+use sheet::Joint;
 use std::test::Fail;
-
-fn bolted() -> Result<Open, Fault> {
-    let mut sheet = Open::new();
-    sheet.bar(200, 12, 1, 24)?;
-    sheet.bolt(2, 330, 1)?;
-    Ok(sheet)
-}
 
 #[test]
 fn of_the_three_hole_bar(rt: HostRuntime) -> Result<(), Fail> {
-    let mut sheet = bolted()?;
+    let mut sheet = bolted(24)?;
     sheet.put(40, 50, 22)?;
     sheet.put(80, 100, 22)?;
     sheet.put(40, 150, 22)?;
@@ -32,7 +25,7 @@ fn of_the_three_hole_bar(rt: HostRuntime) -> Result<(), Fail> {
 
 // 0.75 × 400 MPa × 12 mm × the sum of the lengths, in tenths of a newton: 36,000 for each millimetre.
 fn bearing(near: u32, far: u32) -> Result<i64, Fail> {
-    let mut sheet = bolted()?;
+    let mut sheet = bolted(24)?;
     sheet.put(near, 100, 22)?;
     sheet.put(far, 100, 22)?;
     let joint = Joint::of(sheet.sheet())?;
