@@ -6,7 +6,7 @@ ghost use Rattle.archive.specs.declared.fault.CheckFault.TheVariants.{Read, Shee
 use parts::fault::Fault;
 use reading::fault::{Layer, ReadFault};
 
-#[derive(Clone, Copy)]
+#[derive(Clone, Copy, Debug, PartialEq, Eq)]
 pub enum CheckFault {
     // What reading says, whole.
     Read(ReadFault),
