@@ -7,12 +7,15 @@ use Rattle.parts.specs.declared.hole.Hole.{Hole}
 use Rattle.chains.specs.Chains.{the, Chain, pitch, gage, square, term}
 use Rattle.chains.specs.Search.{Ready, number, May}
 
+-- the square of a distance along the bar
+pub square_most : (s : ℕ) → s ≤ 1200 → s * s ≤ 1440000
+square_most s far = let m : s * s ≤ 1200 * 1200 = mul-le-mul far far in omega arith
+
 -- what two neighbours give back at most
 pub term_most : (low high : Hole) → low.x ≤ 1200 → high.x ≤ 1200 → term low high ≤ 360000000
 term_most low high far far' =
     let apart : pitch low high ≤ 1200 = omega arith in
-    let most : pitch low high * pitch low high ≤ 1200 * 1200 = mul-le-mul apart apart in
-    omega (arith, div-le_self (square low high) (gage low high))
+    omega (arith, square_most (pitch low high) apart, div-le_self (square low high) (gage low high))
 
 -- the last hole of a chain is one of the holes
 pub real : (hs : List Hole) (m : ℕ) (ms : List ℕ) → Chain hs (m ∷ ms) → (1 ≤ m) × (m ≤ length hs)

@@ -9,7 +9,9 @@ use Rattle.parts.specs.declared.hole.Hole.{Hole}
 use Rattle.parts.specs.declared.bolt.Size.{Size}
 use Rattle.parts.specs.declared.bolt.Size.TheVariants.{M16, M20, M22, M24}
 use Rattle.parts.specs.Sizes.{diameter_of}
-use Rattle.sheet.specs.Details.{Details, Sound, Before, no_hole}
+use Rattle.sheet.proofs.Joints.{joint_sound}
+use Rattle.sheet.specs.declared.sheet.joint.Joint.{Joint}
+use Rattle.sheet.specs.Details.{Details, details, Sound, Before, no_hole}
 use Rattle.chains.specs.Chains.{Chain}
 use Rattle.chains.specs.Least.{Least}
 use Rattle.chains.specs.NetWidth.{net_width}
@@ -41,6 +43,9 @@ ready d s =
   where
     same : (j k : ℕ) → j ≡ k → (get_or d.holes j no_hole).y ≤ (get_or d.holes k no_hole).y
     same j k e = omega (arith, ap (λ (n : ℕ). (get_or d.holes n no_hole).y) e)
+
+pub joint_ready : (j : Joint) → Ready (details j).bar.width (details j).holes
+joint_ready j = ready (details j) (joint_sound j)
 
 module _ (d : Details) (s : Sound d) where
   -- the net width in µm

@@ -1,10 +1,9 @@
 -- `min_by_key` over `enumerate`: the first place of the least key.
-use Rattle.std.proofs.Common.{◌≡◌, ℕ, ◌<◌, Bool, true, false, cond, List, [], ◌∷◌, length, get_or, ℤ, ◌≤ℤ◌, ◌<ℤ◌, int_lt, Option, None, Some, Bor, sym, refl, ap, ◌∙◌, subst, zero-add, arith}
+use Rattle.std.proofs.Common.{◌≡◌, ℕ, ◌<◌, Bool, true, false, cond, List, [], ◌∷◌, length, get_or, ℤ, ◌≤ℤ◌, ◌<ℤ◌, Option, None, Some, Bor, sym, refl, ap, ◌∙◌, subst, zero-add, rules, arith}
 use denote.Param.Members.{Mut}
 use Rattle.std.specs.Cmp.{IsTotalOrder}
 use Rattle.std.specs.declared.cmp.Ordering.{Ordering}
 use Rattle.std.specs.declared.cmp.Ordering.TheVariants.{Less, Equal, Greater}
-use borrow.Author.Differences.{ints}
 use Rattle.std.specs.Ordering.{is_lt, int_cmp, ordering_reverse, min_by_ordering}
 use Rattle.std.specs.Fn.{CalledAt, ComputesKey}
 use Rattle.std.specs.Iterator.{KeyTurn, Drains, PicksMinByKey}
@@ -63,19 +62,11 @@ module _ {A F K : Type 0} (g : Mut F (Bor A × Unit {0}) K) {cmp : K → K → O
         (h.0, h.1, h.5, folded h.1 ((h.3, h.2), h.0) (h.4, y) first.1 first.0 h.7)
 
 -- ---- integers
-lt_is : (x y : ℤ) → is_lt (int_cmp x y) ≡ int_lt x y
-lt_is x y = both (int_lt x y) (int_lt y x)
-  where
-    both : (a b : Bool) → is_lt (cond a Less (cond b Greater Equal)) ≡ a
-    both true b = refl
-    both false true = refl
-    both false false = refl
-
 pub less : (x y : ℤ) → is_lt (int_cmp x y) ≡ true → x <ℤ y
-less x y e = let t : int_lt x y ≡ true = sym (lt_is x y) ∙ e in grind (arith, ints)
+less x y e = search (rules, e)
 
 pub not_less : (x y : ℤ) → is_lt (int_cmp x y) ≡ false → y ≤ℤ x
-not_less x y e = let t : int_lt x y ≡ false = sym (lt_is x y) ∙ e in grind (arith, ints)
+not_less x y e = search (rules, e)
 
 -- ---- the items of an `enumerate`
 module _ {B K : Type 0} {cmp : K → K → Ordering} (law : IsTotalOrder cmp) (h : B → K) where

@@ -1,9 +1,8 @@
 -- The first of the least ways on backwards, with one more way at a time.
-use Rattle.std.proofs.Common.{◌≡◌, ℕ, ◌+◌, ◌≤◌, ◌⊎◌, List, Option, None, Some, ◌≤ℤ◌, ◌<ℤ◌, int_lt, true, false, cond, sym, refl, ap, ◌∙◌, subst, inl, inr, ⊎_elim, arith}
+use Rattle.std.proofs.Common.{◌≡◌, ℕ, ◌+◌, ◌≤◌, ◌⊎◌, List, Option, None, Some, ◌≤ℤ◌, ◌<ℤ◌, sym, ap, ◌∙◌, subst, inl, inr, ⊎_elim, rules, arith}
 use borrow.Author.Differences.{ints}
 use Rattle.std.specs.declared.cmp.Ordering.{Ordering}
-use Rattle.std.specs.declared.cmp.Ordering.TheVariants.{Equal, Greater}
-use Rattle.std.specs.Ordering.{is_lt, ord_min, int_cmp}
+use Rattle.std.specs.Ordering.{ord_min, int_cmp}
 use Rattle.std.proofs.lemmas.Int.{by_lt_z}
 use Rattle.std.proofs.lemmas.Bool.{cases_lt}
 use Rattle.parts.specs.declared.hole.Hole.{Hole}
@@ -20,11 +19,8 @@ upto j (Some k) h =
 abbrev pub by_net : Step → Step → Ordering
 by_net a b = int_cmp a.net.0 b.net.0
 
-first : (s t : Step) → s.net.0 ≤ℤ t.net.0 → ord_min by_net s t ≡ s
-first s t h = let e : int_lt t.net.0 s.net.0 ≡ false = grind (arith, ints) in rw e (elim (int_lt s.net.0 t.net.0) as (λ b. cond (is_lt (cond b Greater Equal)) t s ≡ s) [ true ↦ refl | false ↦ refl ])
-
-second : (s t : Step) → t.net.0 <ℤ s.net.0 → ord_min by_net s t ≡ t
-second s t h = let e : int_lt t.net.0 s.net.0 ≡ true = grind (arith, ints) in rw e
+narrower : (r s t : Step) → r ≡ ord_min by_net s t → (s.net.0 ≤ℤ t.net.0 → r ≡ s) × (t.net.0 <ℤ s.net.0 → r ≡ t)
+narrower r s t e = (λ h. search (rules, e), λ h. search (rules, e))
 
 -- the hole alone, before any place is looked at
 pub alone : (bar : ℕ) (hs : List Hole) (steps : List Step) (n : ℕ) (s : Step) → s.before ≡ None → s.net.0 ≡ reach bar hs steps n None → Picks bar hs steps n 0 s
@@ -68,5 +64,5 @@ module _ (bar : ℕ) (hs : List Hole) (steps : List Step) (n j : ℕ) (s : Step)
     pub chooses : (r : Step) → r ≡ ord_min by_net s t → Picks bar hs steps n (j + 1) r
     chooses r e =
         by_lt_z t.net.0 s.net.0
-        (λ less. subst (Picks bar hs steps n (j + 1)) (sym (e ∙ second s t less)) (takes less))
-        (λ le. subst (Picks bar hs steps n (j + 1)) (sym (e ∙ first s t le)) (keeps (λ may. omega (arith, ints))))
+        (λ less. subst (Picks bar hs steps n (j + 1)) (sym ((narrower r s t e).1 less)) (takes less))
+        (λ le. subst (Picks bar hs steps n (j + 1)) (sym ((narrower r s t e).0 le)) (keeps (λ may. omega (arith, ints))))

@@ -22,6 +22,7 @@ impl Iterator for Backwards<'_> {
 
     ghost remaining = { item_count (λ s. led s.steps.now s.at) };
 
+    #[tactic(auto, using(crate::proofs::Led::led_more))]
     fn next(&mut self) -> Option<u8> {
         let place = self.at?;
         self.at = self.steps[place].before;

@@ -16,6 +16,7 @@ pub(crate) struct HoledBar<'a> {
 impl<'a> From<Joint<'a>> for HoledBar<'a> {
     ghost from_gives = { λ joint bar. (bar.width ≡ (details joint).bar.width) × (bar.holes.now ≡ (details joint).holes) };
 
+    #[tactic(auto, using(crate::proofs::Facts::joint_ready))]
     fn from(joint: Joint<'a>) -> HoledBar<'a> {
         HoledBar {
             width: joint.bar().width,

@@ -25,6 +25,7 @@ pub(crate) struct Neighbours<'a> {
 
 impl Neighbours<'_> {
     // What they give back: s² / 4g, rounded down to whole micrometres. s is their distance along the force, g across it.
+    #[tactic(auto, using(crate::proofs::Basics::square_most))]
     pub(crate) fn stagger(&self) -> Micrometres
         ensures { result.0 ≡ pos (term self.now.low.now self.now.high.now) }
     {

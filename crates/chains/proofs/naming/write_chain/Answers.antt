@@ -1,4 +1,4 @@
-use Rattle.std.proofs.Common.{◌≡◌, ◌+◌, length, reverse, set, sym, ap, ◌∙◌, subst, inl, ⊎_elim, arith}
+use Rattle.std.proofs.Common.{◌≡◌, ◌+◌, length, reverse, set, sym, ap, ◌∙◌, subst, ⊎_elim, arith}
 use Rattle.std.proofs.lemmas.List.{length-set, set_past}
 use Rattle.chains.specs.Search.{led}
 use Rattle.chains.specs.Slips.{filed}
@@ -6,14 +6,6 @@ use Rattle.chains.proofs.Led.{led_short}
 use Rattle.chains.proofs.Paths.{Written, written_more, filed_all}
 use Rattle.chains.proofs.naming.write_chain.Goals as goal
 use Rattle.chains.proofs.naming.write_chain.Goals.{In-None}
-
-pub count-count-requires-clause-fits : goal.count-count-requires-clause-fits
-count-count-requires-clause-fits c = inl (omega (arith, led_short c.args.chain.steps.now c.args.chain.at))
-
-pub bounds-slip-place : goal.bounds-slip-place
-bounds-slip-place c =
-    let it = c.loop-place.place-iterator.b in
-    omega (arith, c.in-Some.ensures.steps, led_short it.steps.now it.at)
 
 pub loop-place-preserved : goal.loop-place-preserved
 loop-place-preserved c =
