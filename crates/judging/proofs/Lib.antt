@@ -6,3 +6,4 @@ pub mod Promises
 pub mod Bounds
 pub mod Told
 pub mod Once
+pub mod Made

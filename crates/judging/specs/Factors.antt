@@ -1,16 +1,15 @@
--- Inner: the factors of the combinations, one by one. No public contract rests on these words.
-use Rattle.std.specs.Prelude.{ℕ, ◌/◌, ◌%◌, List, map, replicate, ℤ, pos, slice_index_or, slice_set}
-use Rattle.std.specs.List.{range_with_len}
-use Rattle.judging.specs.Rows.{combined}
+-- Inner: a row as a sum of loads times factors. No public contract rests on these words.
+use Rattle.std.specs.Prelude.{ℕ, ◌+◌, List, [], ◌∷◌, ℤ, pos, negsuc, ◌+ℤ◌, ◌*ℤ◌, ◌≤ℤ◌, slice_index_or}
 
--- one newton of the load k alone
-abbrev pub unit_load : ℕ → List ℤ
-unit_load k = slice_set (replicate 7 (pos 0)) k (pos 1)
+-- no factor is beyond 1.6 either way
+pub record Small (z : ℤ) : Type 0 where
+  pub low : negsuc 15 ≤ℤ z
+  pub high : z ≤ℤ pos 16
 
--- a factor is what its row makes of one newton of its load alone; seven stand in a row
-abbrev pub factor_of : ℕ → ℤ
-factor_of place = slice_index_or (combined (unit_load (place % 7))) (place / 7) (pos 0)
+-- the sum of the loads from number k on, each times its factor
+abbrev pub weighted_from : ℕ → List ℤ → List ℤ → ℤ
+weighted_from k [] loads = pos 0
+weighted_from k (f ∷ fs) loads = (f *ℤ slice_index_or loads k (pos 0)) +ℤ weighted_from (k + 1) fs loads
 
--- all of them, row by row
-abbrev pub factors : List ℤ
-factors = map factor_of (range_with_len 0 133)
+abbrev pub weighted : List ℤ → List ℤ → ℤ
+weighted factors loads = weighted_from 0 factors loads

@@ -1,11 +1,13 @@
 // The nineteen load combinations, in tenths of a newton.
-ghost use Rattle.std.specs.Prelude.{◌≡◌, ◌<◌, pos, negsuc, ◌*ℤ◌, ◌≤ℤ◌, slice_index_or};
-ghost use Rattle.judging.specs.Factors.{factors, factor_of};
+ghost use Rattle.std.specs.Prelude.{◌≡◌, ◌<◌, pos, negsuc, ◌*ℤ◌, ◌≤ℤ◌, length, All, slice_range, ◌+◌, ◌*◌};
+ghost use Rattle.judging.specs.Factors.{Small, weighted};
 ghost use Rattle.judging.specs.Rows.{rows_of, row_at};
 
 use parts::quantity::Decinewtons;
+use std::array;
 
 // Nineteen rows by seven factors, in tenths: dead, live, roof live, snow, rain, wind, earthquake.
+// One flat constant, so that each factor has one place in a single list.
 const FACTORS: [i64; 133] = [
     14, 0, 0, 0, 0, 0, 0, 12, 16, 5, 0, 0, 0, 0, 12, 16, 0, 5, 0, 0, 0, 12, 16, 0, 0, 5, 0, 0, 12,
     5, 16, 0, 0, 0, 0, 12, 0, 16, 0, 0, 8, 0, 12, 5, 0, 16, 0, 0, 0, 12, 0, 0, 16, 0, 8, 0, 12, 5,
@@ -14,43 +16,49 @@ const FACTORS: [i64; 133] = [
     0, -13, 0, 9, 0, 0, 0, 0, 0, 10, 9, 0, 0, 0, 0, 0, -10,
 ];
 
-// The factor that stands at a place of the table.
-fn factor(place: usize) -> i64
-    requires { place < 133 }
-    ensures { result ≡ slice_index_or factors place (pos 0) }
+// The seven factors of the row at a place.
+#[tactic(auto, using(crate::proofs::Factors::seven_long))]
+fn factors_of(place: usize) -> &'static [i64]
+    requires { place < 19 }
+    ensures value { result.now ≡ slice_range FACTORS (7 * place) (7 * place + 7) }
+    ensures seven { length result.now ≡ 7 }
+    ensures small { All Small result.now }
 {
-    FACTORS[place]
+    &FACTORS[7 * place..7 * place + 7]
 }
 
-// One load's part of a row.
-fn part(place: usize, load: i32) -> i64
-    requires { place < 133 }
-    ensures value { result ≡ factor_of place *ℤ load }
-    ensures low_bound { negsuc 34359738367 ≤ℤ result }
-    ensures high_bound { result ≤ℤ pos 34359738368 }
+// What a load adds to a row.
+fn part(factor: i64, load: i32) -> Decinewtons
+    requires { Small factor }
+    ensures value { result.0 ≡ factor *ℤ load }
+    ensures low_bound { negsuc 34359738367 ≤ℤ result.0 }
+    ensures high_bound { result.0 ≤ℤ pos 34359738368 }
 {
-    factor(place) * load as i64
+    Decinewtons(factor * load as i64)
 }
 
-// The row at a place.
-fn row(loads: &[i32; 7], i: usize) -> Decinewtons
-    requires { i < 19 }
-    ensures { result ≡ row_at (rows_of loads.now) i }
+// The sum of the loads, each times its factor.
+fn row(factors: &[i64], loads: &[i32; 7]) -> Decinewtons
+    requires small { All Small factors.now }
+    requires seven { length factors.now ≡ 7 }
+    ensures { result.0 ≡ weighted factors.now loads.now }
 {
-    let mut sum = 0;
-    for k in 0..7 {
-        sum += part(7 * i + k, loads[k]);
+    let mut sum = Decinewtons(0);
+    for (factor, load) in factors.iter().zip(loads) {
+        sum = sum + part(*factor, *load);
     }
-    Decinewtons(sum)
+    sum
 }
 
 // The rows of seven loads in newtons, by their numbers.
+#[tactic(auto, using(crate::proofs::Factors::row_is))]
 pub fn rows(loads: &[i32; 7]) -> [Decinewtons; 19]
     ensures { result ≡ rows_of loads.now }
 {
-    let mut all = [Decinewtons(0); 19];
-    for i in 0..19 {
-        all[i] = row(loads, i);
-    }
-    all
+    array::from_fn(
+        |place|
+            requires { place < 19 }
+            ensures { result ≡ row_at (rows_of loads.entry.now) place }
+        { row(factors_of(place), loads) },
+    )
 }

@@ -1,20 +1,13 @@
-use Rattle.std.proofs.Common.{◌<◌, ◌≢◌, length, pos, sym, ◌∙◌, arith, below_more}
-use Rattle.std.proofs.lemmas.List.{length-set, get_or-set_same, get_or-set_other, ext_get_or}
-use Rattle.judging.specs.Rows.{rows_of, decinewtons}
+use Rattle.std.proofs.Common.{◌≡◌, pos, sym, ◌∙◌, rules, arith}
+use Rattle.std.proofs.lemmas.List.{ext_get_or}
+use Rattle.judging.specs.Rows.{rows_of, row_at, decinewtons}
 use Rattle.judging.proofs.Factors.{length_rows}
+use Rattle.judging.proofs.Made.{made_from}
 use Rattle.judging.proofs.rows.rows.Goals as goal
-
-pub loop-i-preserved : goal.loop-i-preserved
-loop-i-preserved c =
-    let so = c.loop-i.invariant in
-    let lt : c.loop-i.i < length c.loop-i.all = omega (arith, so.0) in (
-      length-set _ _ _ ∙ so.0,
-      below_more _ _
-          (λ k h. let ne : k ≢ c.loop-i.i = omega arith in rw get_or-set_other (so.1 k h))
-          (get_or-set_same _ _ _ _ lt ∙ c.row.ensures),
-    )
 
 pub returns : goal.returns
 returns c =
-    let so = c.loop-i.invariant in
-    ext_get_or (decinewtons (pos 0)) c.loop-i.all (rows_of c.args.loads.now) (so.0 ∙ sym (length_rows c.args.loads.now)) (λ k h. so.1 k (omega (arith, so.0)))
+    let made = c.from_fn.ensures.items in
+    let loads = c.args.loads.now in
+    ext_get_or (decinewtons (pos 0)) c.from_fn.result (rows_of loads) (made.long ∙ sym (length_rows loads))
+    (λ k h. made_from _ (λ i y. y ≡ row_at (rows_of loads) i) _ (λ i y f' call. search rules) c.from_fn.result (decinewtons (pos 0)) 0 19 made.each k (omega arith) (omega (arith, made.long)))
