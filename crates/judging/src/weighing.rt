@@ -2,10 +2,10 @@
 ghost use Rattle.std.specs.Prelude.{◌≡◌};
 ghost use Rattle.judging.specs.Weighing.{Weighed, kind_of};
 
-use crate::extremes::{greatest, least};
 use crate::judgment::{Judgment, Kind};
 use limits::rated::Rated;
 use parts::quantity::{Decinewtons, Micrometres};
+use std::cmp::Reverse;
 
 // A force that would turn round counts before one that is too great.
 fn kind(least: Decinewtons, greatest: Decinewtons, strength: Decinewtons) -> Kind
@@ -23,15 +23,19 @@ fn kind(least: Decinewtons, greatest: Decinewtons, strength: Decinewtons) -> Kin
 pub(crate) fn weighed(rows: &[Decinewtons; 19], weakest: Rated, net_width: Micrometres) -> Judgment
     ensures { Weighed rows.now weakest net_width result }
 {
-    let high = greatest(rows);
-    let low = least(rows);
+    let (place, greatest) = rows
+        .iter()
+        .enumerate()
+        .min_by_key(|(_, row)| Reverse(**row))
+        .unwrap();
+    let least = rows.iter().min().unwrap();
     Judgment {
-        kind: kind(rows[low], rows[high], weakest.strength),
-        row: high as u8 + 1,
+        kind: kind(*least, *greatest, weakest.strength),
+        row: place as u8 + 1,
         state: weakest.number,
-        greatest: rows[high],
+        greatest: *greatest,
         strength: weakest.strength,
         net_width,
-        least: rows[low],
+        least: *least,
     }
 }
