@@ -12,6 +12,7 @@ pub enum Kind {
 }
 
 impl Kind {
+    // A method and no conversion, since a page calls it the kind's number.
     pub fn number(self) -> u8
         ensures { result ≡ verdict_number self }
     {
@@ -19,7 +20,7 @@ impl Kind {
     }
 }
 
-#[derive(Clone, Copy)]
+#[derive(Clone, Copy, Debug, PartialEq, Eq)]
 pub struct Judgment {
     pub kind: Kind,
     // The numbers of the first of the greatest rows and of the first of the weakest limit states.
