@@ -33,6 +33,7 @@ impl From<Fault> for CheckFault {
 }
 
 impl CheckFault {
+    // A method and no conversion: it is one of three things that a refused line tells.
     pub fn number(self) -> u8
         ensures { result ≡ check_number self }
     {

@@ -6,6 +6,7 @@ ghost use Rattle.bridge.specs.Told.{Told};
 
 use archive::check::check;
 
+// One number for both cases, since C has no `Result`.
 // How many bytes of `out` are the answer; or the greatest number there is, where the answer does not fit and `out` is left.
 pub fn wurgelzit_check(text: &[u8], out: &mut [u8]) -> usize
     ensures { Told text.now out.old result out.new }

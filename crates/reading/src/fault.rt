@@ -45,6 +45,7 @@ impl Cause {
         ReadFault { cause: self, line }
     }
 
+    // A method and no conversion: a refused line calls it the fault's number, and the sheet's keep theirs.
     pub fn number(self) -> u8
         ensures { result ≡ cause_number self }
     {
@@ -68,6 +69,7 @@ impl Cause {
 }
 
 impl ReadFault {
+    // Its cause's number.
     pub fn number(self) -> u8
         ensures { result ≡ cause_number self.cause }
     {

@@ -23,6 +23,7 @@ impl From<Fault> for PageFault {
 }
 
 impl PageFault {
+    // A method and no conversion: a refusal is told by this number, and the sheet's keep theirs.
     pub fn number(self) -> u8
         ensures { result ≡ page_number self }
     {
