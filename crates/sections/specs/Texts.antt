@@ -15,7 +15,7 @@ use Rattle.text.specs.Words.{line, header}
 use Rattle.sections.specs.declared.line.Piece.{Piece}
 use Rattle.sections.specs.declared.line.Piece.TheVariants.{Number, Signed, Word}
 
--- inner: a piece of a line, as it is written
+-- a piece of a line, as it is written
 abbrev pub spelled : Piece → List ℕ
 spelled (Number n) = decimal n
 spelled (Signed z) = signed_decimal z

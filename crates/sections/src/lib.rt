@@ -1,5 +1,5 @@
 // The first four sections of a page: what they say, and how they are written.
 #![tactic(auto)]
 
-mod line;
+pub mod line;
 pub mod writes;

@@ -6,10 +6,10 @@ ghost use Rattle.sections.specs.Texts.{spelled};
 
 use text::draft::Draft;
 
-#[derive(Clone, Copy)]
-pub(crate) enum Piece<'a> {
-    Number(u32),
-    Signed(i32),
+#[derive(Clone, Copy, Debug, PartialEq, Eq)]
+pub enum Piece<'a> {
+    Number(u64),
+    Signed(i64),
     Word(&'a [u8]),
 }
 
@@ -17,14 +17,14 @@ fn write_piece(draft: &mut Draft, piece: Piece<'_>)
     ensures { Adds draft.old (spelled piece.entry) draft.new }
 {
     match piece {
-        Piece::Number(number) => draft.number(number.into()),
-        Piece::Signed(number) => draft.signed(number.into()),
+        Piece::Number(number) => draft.number(number),
+        Piece::Signed(number) => draft.signed(number),
         Piece::Word(word) => draft.word(word),
     }
 }
 
 // The pieces with a space between each two, and the line's end.
-pub(crate) fn write_line(draft: &mut Draft, pieces: &[Piece<'_>])
+pub fn write_line(draft: &mut Draft, pieces: &[Piece<'_>])
     ensures { Adds draft.old (line (map spelled pieces.now)) draft.new }
 {
     if let Some((first, others)) = pieces.split_first() {

@@ -19,10 +19,10 @@ pub fn write_bar(draft: &mut Draft, bar: &Bar)
     write_line(
         draft,
         &[
-            Number(bar.width),
-            Number(bar.thickness),
+            Number(bar.width.into()),
+            Number(bar.thickness.into()),
             Word(bar.steel.name()),
-            Number(bar.edge),
+            Number(bar.edge.into()),
         ],
     );
 }
@@ -35,8 +35,8 @@ pub fn write_bolt(draft: &mut Draft, bolt: &Bolt)
         draft,
         &[
             Word(bolt.size.name()),
-            Number(bolt.stress.0),
-            Number(bolt.planes),
+            Number(bolt.stress.0.into()),
+            Number(bolt.planes.into()),
         ],
     );
 }
@@ -46,7 +46,11 @@ fn write_hole(draft: &mut Draft, hole: &Hole)
 {
     write_line(
         draft,
-        &[Number(hole.x), Number(hole.y), Number(hole.diameter)],
+        &[
+            Number(hole.x.into()),
+            Number(hole.y.into()),
+            Number(hole.diameter.into()),
+        ],
     );
 }
 
@@ -63,7 +67,10 @@ fn write_load(draft: &mut Draft, kind: LoadKind, loads: &[i32; 7])
     ensures { Adds draft.old (load_line (load_at loads.now kind)) draft.new }
 {
     let letter = [char::from(kind) as u8];
-    write_line(draft, &[Word(&letter), Signed(loads[usize::from(kind)])]);
+    write_line(
+        draft,
+        &[Word(&letter), Signed(loads[usize::from(kind)].into())],
+    );
 }
 
 // The order of the load lines is left open: each letter stands once.

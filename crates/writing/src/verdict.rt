@@ -5,27 +5,26 @@ ghost use Rattle.text.specs.Drafts.{Adds};
 ghost use Rattle.writing.specs.Texts.{verdict_text, chain_line, chain_text};
 
 use judging::judgment::Judgment;
+use sections::line::Piece::{Number, Signed};
+use sections::line::write_line;
 use text::draft::Draft;
 
-// Seven pieces by name: a loop over them would hide which is which.
 pub(crate) fn write_verdict(draft: &mut Draft, judgment: &Judgment)
     ensures { Adds draft.old (verdict_text judgment.now) draft.new }
 {
     draft.header(1, b"verdict");
-    draft.number(judgment.kind.number() as u64);
-    draft.byte(b' ');
-    draft.number(judgment.row as u64);
-    draft.byte(b' ');
-    draft.number(judgment.state as u64);
-    draft.byte(b' ');
-    draft.signed(judgment.greatest.0);
-    draft.byte(b' ');
-    draft.signed(judgment.strength.0);
-    draft.byte(b' ');
-    draft.signed(judgment.net_width.0);
-    draft.byte(b' ');
-    draft.signed(judgment.least.0);
-    draft.byte(b'\n');
+    write_line(
+        draft,
+        &[
+            Number(judgment.kind.number().into()),
+            Number(judgment.row.into()),
+            Number(judgment.state.into()),
+            Signed(judgment.greatest.0),
+            Signed(judgment.strength.0),
+            Signed(judgment.net_width.0),
+            Signed(judgment.least.0),
+        ],
+    );
 }
 
 // The numbers on a slip: up to a 0, or to its end.
