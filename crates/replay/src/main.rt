@@ -27,25 +27,27 @@ impl fmt::Display for NoCall {
     }
 }
 
-fn lines_of(rt: &HostRuntime) -> anyhow::Result<Vec<String>> {
-    let mut lines = Vec::new(rt.alloc());
-    for line in rt.lines(rt.alloc()) {
-        lines.push(line?)?;
-    }
-    Ok(lines)
+fn call_in(heap: Global, line: &str) -> Result<Option<Call>, AllocError> {
+    let words = line.split(' ').collect::<Vec<&str>>(heap)?;
+    Ok(call_of(words.as_slice()))
 }
 
-// The call that each line is; or the first line that is none.
-fn calls_of(heap: Global, lines: &[String]) -> Result<Result<Vec<Call>, NoCall>, AllocError> {
+// The lines of the input and their calls; or the first line that is none.
+fn calls_of(rt: &HostRuntime) -> anyhow::Result<Result<(Vec<String>, Vec<Call>), NoCall>> {
+    let heap = rt.alloc();
+    let mut lines = Vec::new(heap);
     let mut calls = Vec::new(heap);
-    for (i, line) in lines.iter().enumerate() {
-        let words = line.as_str().split(' ').collect::<Vec<&str>>(heap)?;
-        let Some(call) = call_of(words.as_slice()) else {
-            return Ok(Err(NoCall { line: i + 1 }));
+    for line in rt.lines(heap) {
+        let line = line?;
+        let Some(call) = call_in(heap, line.as_str())? else {
+            return Ok(Err(NoCall {
+                line: lines.len().saturating_add(1),
+            }));
         };
         calls.push(call)?;
+        lines.push(line)?;
     }
-    Ok(Ok(calls))
+    Ok(Ok((lines, calls)))
 }
 
 fn tell_all(
@@ -66,9 +68,8 @@ fn tell_all(
 
 fn main(rt: HostRuntime) -> anyhow::Result<()> {
     let heap = rt.alloc();
-    let lines = lines_of(&rt)?;
-    let calls = match calls_of(heap, lines.as_slice())? {
-        Ok(calls) => calls,
+    let (lines, calls) = match calls_of(&rt)? {
+        Ok(read) => read,
         Err(no_call) => return Ok(println!(rt; "{no_call}")?),
     };
     println!(rt; "by the norm")?;
