@@ -12,7 +12,7 @@ pub enum Kind {
 }
 
 impl Kind {
-    // A method and no conversion, since a page calls it the kind's number.
+    // A method and no conversion: seven numbers tell a judgment, and this names the one.
     pub fn number(self) -> u8
         ensures { result ≡ verdict_number self }
     {

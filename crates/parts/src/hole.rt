@@ -10,7 +10,8 @@ pub struct Hole {
 }
 
 impl Hole {
-    // Holes are numbered by rising y, and by rising x where y is equal. Not the type's own order, which tells diameters apart.
+    // Holes are numbered by rising y, and by rising x where y is equal.
+    // Not an order of the type, which would tell diameters apart.
     pub fn is_before(&self, other: &Hole) -> bool
         ensures { result ≡ before self.now other.now }
     {

@@ -1,7 +1,8 @@
 // The seven loads, by their letters.
-ghost use Rattle.std.specs.Prelude.{◌≡◌, ok_or};
+ghost use Rattle.std.specs.Prelude.{◌≡◌, ◌≢◌, ◌∷◌, [], ok_or, MatchResult};
 ghost use Rattle.parts.specs.LoadKinds.{kind_number, kind_of, letter_of};
 ghost use Rattle.parts.specs.declared.fault.Fault.TheVariants.{UnknownLoad};
+ghost use Rattle.parts.specs.declared.load.LoadKind.{LoadKind as AnyKind};
 
 use crate::fault::Fault;
 
@@ -43,6 +44,20 @@ impl TryFrom<char> for LoadKind {
             'R' => Ok(LoadKind::Rain),
             'W' => Ok(LoadKind::Wind),
             'E' => Ok(LoadKind::Earthquake),
+            _ => Err(Fault::UnknownLoad),
+        }
+    }
+}
+
+// The load whose letter is this word.
+impl TryFrom<&[u8]> for LoadKind {
+    type Error = Fault;
+
+    ghost try_from_gives = { λ name r. MatchResult r (λ k. name.now ≡ letter_of k ∷ []) (λ e. (e ≡ UnknownLoad) × ((k : AnyKind) → name.now ≢ letter_of k ∷ [])) };
+
+    fn try_from(name: &[u8]) -> Result<LoadKind, Fault> {
+        match name {
+            [letter] => LoadKind::try_from(char::from(*letter)),
             _ => Err(Fault::UnknownLoad),
         }
     }

@@ -1,5 +1,5 @@
 // A length, a stress and a force are each a quantity of its own: sums and order stay within one.
-// Each has its own sum, since one sum for all would be that of a single type with a unit, and they are three types.
+// Micrometres and Decinewtons have a sum each: one sum for both would be that of a single type with a unit, and they are separate types.
 ghost use Rattle.std.specs.Prelude.{◌≡◌, ◌+ℤ◌, ◌-ℤ◌, FitsSigned};
 ghost use Rattle.std.specs.Int.{w64};
 

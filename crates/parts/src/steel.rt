@@ -52,6 +52,7 @@ const STRESSES: [Stresses; 6] = [
 ];
 
 // The steel of a number from 1 to 6.
+// Written out, as a size's is: a conversion cannot be given to all types of a trait at once.
 impl TryFrom<u32> for Steel {
     type Error = Fault;
 

@@ -45,7 +45,7 @@ impl Cause {
         ReadFault { cause: self, line }
     }
 
-    // A method and no conversion: a refused line calls it the fault's number, and the sheet's keep theirs.
+    // A method and no conversion, which would not say whether the refusal's number is meant or the hole's.
     pub fn number(self) -> u8
         ensures { result ≡ cause_number self }
     {

@@ -11,7 +11,7 @@ use parts::bolt::Bolt;
 use parts::fault::Fault;
 use parts::hole::Hole;
 
-// An array and its count, and no vector that grows: a change copies the row into the sheet that it writes, and to copy a vector may fail.
+// An array and its count, and no vector of fixed capacity: a change copies the row into the sheet that it writes, and to copy a vector may fail.
 #[derive(Clone, Copy)]
 pub(crate) struct Row {
     count: usize,

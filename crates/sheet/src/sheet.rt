@@ -21,7 +21,7 @@ pub struct Sheet {
     bolt: Option<Bolt>,
     // In newtons, by the number of the load.
     loads: [i32; 7],
-    // Last, so that a change that leaves the holes need not copy them.
+    // Last, by convention: the largest field.
     row: Row,
     ghost bar_ok: { holds bar_ranges bar ≡ true },
     ghost bolt_ok: { holds bolt_ranges bolt ≡ true },

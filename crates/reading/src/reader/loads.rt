@@ -1,25 +1,12 @@
 // The section of the loads: seven lines in any order, each letter once.
-ghost use Rattle.std.specs.Prelude.{◌≡◌, ℕ, ◌+◌, ◌<◌, MatchResult};
-ghost use Rattle.parts.specs.declared.load.LoadKind.{LoadKind as AnyKind};
-ghost use Rattle.reading.specs.LineFaults.{Names};
+ghost use Rattle.std.specs.Prelude.{ℕ, ◌+◌, ◌<◌};
 ghost use Rattle.reading.specs.Stages.{Leads, LineLeads, drilled, at_loads, with_loads, whole};
 
 use super::Reader;
 use crate::fault::{Cause, ReadFault};
 use crate::fields::load_fields;
 use crate::header::header;
-use parts::fault::Fault;
 use parts::load::LoadKind;
-
-// The load whose letter is this word.
-fn kind_named(name: &[u8]) -> Result<LoadKind, Fault>
-    ensures { MatchResult result (λ k. Names name.now k) (λ e. (e ≡ Fault.UnknownLoad) × ((k : AnyKind) → Names name.now k → ⊥)) }
-{
-    match name {
-        [letter] => LoadKind::try_from(char::from(*letter)),
-        _ => Err(Fault::UnknownLoad),
-    }
-}
 
 impl Reader<'_> {
     // One load, whose letter is not among those that `seen` marks.
@@ -27,7 +14,7 @@ impl Reader<'_> {
         ensures { (i : ℕ) → i < 7 → LineLeads (with_loads i seen.old) (with_loads (i + 1) seen.new) self.old result self.new }
     {
         let (name, newtons) = load_fields(&mut self.cursor).ok_or(Cause::Malformed)?;
-        let kind = kind_named(name)?;
+        let kind = LoadKind::try_from(name)?;
         let place = usize::from(kind);
         if seen[place] {
             return Err(Cause::LetterAgain);
@@ -39,7 +26,7 @@ impl Reader<'_> {
     fn load_lines(&mut self) -> Result<(), ReadFault>
         ensures { Leads at_loads whole self.old result self.new }
     {
-        // A mark for each load, by its number: no heap is needed.
+        // A mark for each load, by its number.
         let mut seen = [false; 7];
         for _i in 0..7usize {
             let line = self.cursor.line() + 1;

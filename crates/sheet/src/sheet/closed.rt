@@ -17,6 +17,7 @@ impl Closed {
         Open { sheet }
     }
 
+    // Also a call of an open sheet: two types, so that a call on the wrong one does not build.
     pub fn sheet(&self) -> &Sheet
         ensures { result.now ≡ self.now.sheet }
     {

@@ -11,7 +11,7 @@ use parts::fault::Fault;
 use parts::hole::Hole;
 
 impl<'a> Joint<'a> {
-    // Not a conversion: a joint looks at the sheet, which stays.
+    // Not a conversion, whose name would not say that the sheet is looked at: it may have no bar, no bolt or no hole.
     #[tactic(auto, using(crate::proofs::Joints::no_fault, crate::proofs::Joints::all_shown, crate::proofs::Joints::sheet_sound))]
     pub fn of(sheet: &'a Sheet) -> Result<Joint<'a>, Fault>
         ensures { JointOf (account sheet.now) result }
