@@ -18,7 +18,7 @@ fn write_piece(draft: &mut Draft, piece: Piece<'_>)
 {
     match piece {
         Piece::Number(number) => draft.number(number),
-        Piece::Signed(number) => draft.signed(number),
+        Piece::Signed(number) => draft.number(number),
         Piece::Word(word) => draft.word(word),
     }
 }

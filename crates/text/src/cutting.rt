@@ -10,7 +10,7 @@ pub fn cut(text: &[u8], at: u8) -> Option<(&[u8], &[u8])>
     Some((&text[..end], &text[end + 1..]))
 }
 
-// Whether two texts are the same. The language's own equality, under a name that a caller may cite.
+// Whether two texts are the same. A public promise that stands; it is the language's own equality.
 pub fn same(a: &[u8], b: &[u8]) -> bool
     ensures { IsTrue result ↔ (a.now ≡ b.now) }
 {

@@ -15,6 +15,7 @@ pub fn number(text: &[u8]) -> Option<u32>
 }
 
 // The value of these digits, where they are digits.
+// Not the library's parse, which takes a plus sign and a text of characters.
 fn value(digits: &[u8]) -> Option<u32>
     requires { length digits.now ≤ 9 }
     ensures { MatchOption result (AllDigits 10 digits.now → ⊥) (λ n. AllDigits 10 digits.now × (n ≡ digits_value 10 digits.now)) }

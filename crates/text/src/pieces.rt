@@ -7,7 +7,7 @@ use crate::cutting::cut;
 use crate::numbers::signed_number;
 
 // What a piece of a line is taken as.
-// An array of references gets no proof where its length is a parameter, so the pieces of a line are of a type parameter.
+// An array of a type that holds a reference, as a piece does, gets no proof where its length is a parameter; one of a type parameter does.
 pub trait FromText<'a>: Copy {
     // Its stretch of the page.
     ghost said: { Self → List ℕ };
@@ -20,6 +20,7 @@ pub trait FromText<'a>: Copy {
         ensures sound { is_sound line result };
 }
 
+// Both cases hold their stretch of the page and its line: a word or a number is one of two things, each whole.
 #[derive(Clone, Copy, Debug, PartialEq, Eq)]
 pub enum Piece<'a> {
     Word {

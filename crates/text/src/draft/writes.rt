@@ -1,12 +1,11 @@
 // What is written on a draft, and copied from it.
-ghost use Rattle.std.specs.Prelude.{◌≡◌, [], ◌∷◌, decimal};
-ghost use Rattle.std.specs.Fmt.{signed_decimal};
+ghost use Rattle.std.specs.Prelude.{◌≡◌, [], ◌∷◌};
 ghost use Rattle.text.specs.Drafts.{written, Adds, Laid};
 ghost use Rattle.text.specs.Words.{header};
 
 use super::Draft;
 use arrayvec::ArrayVec;
-use itoa::Buffer;
+use itoa::{Buffer, Integer};
 
 impl Draft {
     pub fn new() -> Draft
@@ -32,18 +31,11 @@ impl Draft {
         }
     }
 
-    // The number in decimal.
-    pub fn number(&mut self, n: u64)
-        ensures { Adds self.old (decimal n) self.new }
+    // The number in decimal, with a minus sign before it where it is under 0.
+    pub fn number<I: Integer>(&mut self, n: I)
+        ensures { Adds self.old (I.text n) self.new }
     {
         self.word(Buffer::new().format(n).as_bytes());
-    }
-
-    // The same with a minus sign before a number under 0.
-    pub fn signed(&mut self, z: i64)
-        ensures { Adds self.old (signed_decimal z) self.new }
-    {
-        self.word(Buffer::new().format(z).as_bytes());
     }
 
     // The first line of a section: its count and its name.
