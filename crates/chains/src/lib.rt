@@ -1,7 +1,6 @@
 // The least chain of holes across a flat bar, and the net width along it.
 #![tactic(auto)]
 
-mod backwards;
 mod holed_bar;
 mod naming;
 mod neighbours;
@@ -14,9 +13,8 @@ ghost use Rattle.chains.specs.NetWidth.{net_width};
 ghost use Rattle.chains.specs.Rounding.{Rounded};
 ghost use Rattle.chains.specs.Slips.{Named};
 
-use backwards::Backwards;
 use holed_bar::HoledBar;
-use naming::write_chain;
+use naming::{Backwards, write_chain};
 use parts::quantity::Micrometres;
 use search::narrowest_end;
 use sheet::Joint;
