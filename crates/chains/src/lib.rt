@@ -19,7 +19,7 @@ use parts::quantity::Micrometres;
 use search::narrowest_end;
 use sheet::Joint;
 
-// A slip is 32 numbers that a 0 ends, since those who call from outside hand one over.
+// A slip is a fixed array, since it needs no heap; where the chain is shorter, a 0 ends it.
 // Names the least chain of the joint's holes on the slip, first hole first, with a 0 behind it if a place remains, and answers its width.
 pub fn least_chain(joint: Joint<'_>, slip: &mut [u8; 32]) -> Micrometres
     ensures named { Named (details joint.entry).bar.width (details joint.entry).holes slip.old slip.new result.0 }
@@ -41,6 +41,5 @@ pub fn least_chain(joint: Joint<'_>, slip: &mut [u8; 32]) -> Micrometres
 pub fn net_width(joint: Joint<'_>) -> Micrometres
     ensures { result.0 ≡ net_width (details joint.entry).bar.width (details joint.entry).holes }
 {
-    let mut slip = [0; 32];
-    least_chain(joint, &mut slip)
+    narrowest_end(&HoledBar::from(joint).steps()).1
 }

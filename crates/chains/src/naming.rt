@@ -37,6 +37,7 @@ pub(crate) fn write_chain(chain: Backwards<'_>, slip: &mut [u8; 32])
     ensures { slip.new ≡ filed (reverse (led chain.entry.steps.now chain.entry.at)) slip.old }
 {
     let count = chain.count();
+    // By places: what a loop over an adapter of `iter_mut` writes is not known after it.
     for (place, number) in (0..count).rev().zip(chain) {
         slip[place] = number;
     }

@@ -13,6 +13,7 @@ use std::cmp::min_by_key;
 #[derive(Clone, Copy, Debug, Default, PartialEq, Eq)]
 pub(crate) struct Step {
     pub(crate) net: Micrometres,
+    // A place and no box: a box would be on the heap.
     pub(crate) before: Option<usize>,
 }
 
