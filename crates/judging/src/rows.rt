@@ -1,5 +1,5 @@
 // The nineteen load combinations, in tenths of a newton.
-ghost use Rattle.std.specs.Prelude.{◌≡◌, ◌<◌, pos, negsuc, ◌*ℤ◌, ◌≤ℤ◌, length, All, slice_range, ◌+◌, ◌*◌};
+ghost use Rattle.std.specs.Prelude.{◌≡◌, ◌<◌, pos, negsuc, ◌*ℤ◌, ◌≤ℤ◌, All, slice_range, ◌+◌, ◌*◌};
 ghost use Rattle.judging.specs.Factors.{Small, weighted};
 ghost use Rattle.judging.specs.Rows.{rows_of, row_at};
 
@@ -7,7 +7,7 @@ use parts::quantity::Decinewtons;
 use std::array;
 
 // Nineteen rows by seven factors, in tenths: dead, live, roof live, snow, rain, wind, earthquake.
-// One flat constant, so that each factor has one place in a single list.
+// One flat table by a rule of the archive's: row by row, as the norm lists its combinations.
 const FACTORS: [i64; 133] = [
     14, 0, 0, 0, 0, 0, 0, 12, 16, 5, 0, 0, 0, 0, 12, 16, 0, 5, 0, 0, 0, 12, 16, 0, 0, 5, 0, 0, 12,
     5, 16, 0, 0, 0, 0, 12, 0, 16, 0, 0, 8, 0, 12, 5, 0, 16, 0, 0, 0, 12, 0, 0, 16, 0, 8, 0, 12, 5,
@@ -18,13 +18,12 @@ const FACTORS: [i64; 133] = [
 
 // The seven factors of the row at a place.
 #[tactic(auto, using(crate::proofs::Factors::seven_long))]
-fn factors_of(place: usize) -> &'static [i64]
+fn factors_of(place: usize) -> &'static [i64; 7]
     requires { place < 19 }
     ensures value { result.now ≡ slice_range FACTORS (7 * place) (7 * place + 7) }
-    ensures seven { length result.now ≡ 7 }
     ensures small { All Small result.now }
 {
-    &FACTORS[7 * place..7 * place + 7]
+    FACTORS[7 * place..7 * place + 7].as_array().unwrap()
 }
 
 // What a load adds to a row.
@@ -38,9 +37,8 @@ fn part(factor: i64, load: i32) -> Decinewtons
 }
 
 // The sum of the loads, each times its factor.
-fn row(factors: &[i64], loads: &[i32; 7]) -> Decinewtons
-    requires small { All Small factors.now }
-    requires seven { length factors.now ≡ 7 }
+fn row(factors: &[i64; 7], loads: &[i32; 7]) -> Decinewtons
+    requires { All Small factors.now }
     ensures { result.0 ≡ weighted factors.now loads.now }
 {
     let mut sum = Decinewtons(0);
