@@ -1,13 +1,14 @@
 // A text checked: its page, or a line that says what is wrong and where.
-ghost use Rattle.std.specs.Prelude.{◌≡◌, ◌^◌, ◌<◌, decimal};
-ghost use Rattle.text.specs.Drafts.{written, Adds};
+ghost use Rattle.std.specs.Prelude.{◌≡◌};
+ghost use Rattle.text.specs.Drafts.{written};
 ghost use Rattle.archive.specs.Again.{PagesReadAgain};
 ghost use Rattle.archive.specs.Checks.{Sheets, Lays, Checks, refused_line};
-ghost use Rattle.archive.specs.Faults.{check_number};
 
 use crate::fault::{CheckFault, NoRoom};
 use limits::norm::norm;
 use reading::read::read;
+use sections::line::Piece::{Number, Word};
+use sections::line::write_line;
 use sheet::{Closed, Joint, Open};
 use text::draft::Draft;
 use writing::page::page;
@@ -26,25 +27,19 @@ fn sheet_of(text: &[u8]) -> Result<Closed, CheckFault>
     Ok(open.close())
 }
 
-// The number of a fault.
-fn write_number(draft: &mut Draft, fault: CheckFault)
-    ensures adds { Adds draft.old (decimal (check_number fault)) draft.new }
-    ensures small { check_number fault < 2 ^ 64 }
-{
-    draft.number(fault.number() as u64);
-}
-
 // The line that says what is wrong and where.
 fn refusal_line(fault: CheckFault) -> Draft
     ensures { written result ≡ refused_line fault }
 {
     let mut draft = Draft::new();
-    draft.word(b"refused");
-    draft.byte(b' ');
-    write_number(&mut draft, fault);
-    draft.byte(b' ');
-    draft.number(fault.line() as u64);
-    draft.byte(b'\n');
+    write_line(
+        &mut draft,
+        &[
+            Word(b"refused"),
+            Number(fault.number().into()),
+            Number(fault.line() as u64),
+        ],
+    );
     draft
 }
 

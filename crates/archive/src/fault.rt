@@ -33,7 +33,7 @@ impl From<Fault> for CheckFault {
 }
 
 impl CheckFault {
-    // A method and no conversion: it is one of three things that a refused line tells.
+    // A method and no conversion: number, layer and line are three facts of one fault.
     pub fn number(self) -> u8
         ensures { result ≡ check_number self }
     {
@@ -55,7 +55,7 @@ impl CheckFault {
         }
     }
 
-    // From 1; 0 where no line is meant.
+    // From 1; 0 where no line is meant, since the refused line has that number.
     pub fn line(self) -> usize
         ensures { result ≡ check_line self }
     {

@@ -38,7 +38,7 @@ fn tell_replaced(rt: &HostRuntime, n: usize) -> anyhow::Result<()> {
 
 fn main(rt: HostRuntime) -> anyhow::Result<()> {
     for n in 0..TEXT.len() {
-        tell(&rt, &TEXT[0..n])?;
+        tell(&rt, &TEXT[..n])?;
     }
     for n in 0..TEXT.len() {
         tell_replaced(&rt, n)?;

@@ -45,9 +45,9 @@ fn one_hole() -> Open {
 // Two lines of sixteen holes.
 fn all_holes() -> Open {
     let mut sheet = bar_and_bolt();
-    for i in 0..16u32 {
-        let _ = sheet.put(40 + 60 * i, 50, 22);
-        let _ = sheet.put(40 + 60 * i, 110, 22);
+    for x in (40..=940).step_by(60) {
+        let _ = sheet.put(x, 50, 22);
+        let _ = sheet.put(x, 110, 22);
     }
     sheet
 }

@@ -23,7 +23,7 @@ impl From<Fault> for PageFault {
 }
 
 impl PageFault {
-    // A method and no conversion: a refusal is told by this number, and the sheet's keep theirs.
+    // A method and no conversion, which would not say whether the refusal's number is meant or the hole's.
     pub fn number(self) -> u8
         ensures { result ≡ page_number self }
     {

@@ -38,8 +38,7 @@ pub(crate) fn numbers_on(slip: &[u8; 32]) -> &[u8]
 fn write_number(draft: &mut Draft, number: u8)
     ensures { Adds draft.old (chain_line number) draft.new }
 {
-    draft.number(number as u64);
-    draft.byte(b'\n');
+    write_line(draft, &[Number(number.into())]);
 }
 
 pub(crate) fn write_chain(draft: &mut Draft, numbers: &[u8])
