@@ -16,7 +16,7 @@ const FACTORS: [i64; 133] = [
     0, -13, 0, 9, 0, 0, 0, 0, 0, 10, 9, 0, 0, 0, 0, 0, -10,
 ];
 
-// The seven factors of the row at a place.
+// The seven factors of the row at a place. That they are small is said of plain numbers: a type of its own would hide them in the table.
 #[tactic(auto, using(crate::proofs::Factors::seven_long))]
 fn factors_of(place: usize) -> &'static [i64; 7]
     requires { place < 19 }
