@@ -6,13 +6,12 @@ use archive::replay::replay;
 use limits::bank::{Both, Only};
 use limits::norm::norm;
 use sample::PerWidth;
-use std::alloc::{AllocError, Global};
 use std::fmt;
 
 mod parse;
 mod tell;
 
-use parse::call_of;
+use parse::call_in;
 use tell::tell;
 
 // A line that is no call, by its number from 1.
@@ -27,11 +26,6 @@ impl fmt::Display for NoCall {
     }
 }
 
-fn call_in(heap: Global, line: &str) -> Result<Option<Call>, AllocError> {
-    let words = line.split(' ').collect::<Vec<&str>>(heap)?;
-    Ok(call_of(words.as_slice()))
-}
-
 // The lines of the input and their calls; or the first line that is none.
 fn calls_of(rt: &HostRuntime) -> anyhow::Result<Result<(Vec<String>, Vec<Call>), NoCall>> {
     let heap = rt.alloc();
@@ -39,7 +33,7 @@ fn calls_of(rt: &HostRuntime) -> anyhow::Result<Result<(Vec<String>, Vec<Call>),
     let mut calls = Vec::new(heap);
     for line in rt.lines(heap) {
         let line = line?;
-        let Some(call) = call_in(heap, line.as_str())? else {
+        let Some(call) = call_in(line.as_str()) else {
             return Ok(Err(NoCall {
                 line: lines.len().saturating_add(1),
             }));

@@ -1,6 +1,10 @@
-// One call, as the words of a line: its name and its arguments.
+// One call, as a line of text: its name and its arguments, parted by one space.
 use archive::call::Call;
+use arrayvec::ArrayVec;
 use std::str::FromStr;
+
+// One word more than the longest call has. What follows it is not looked at, and needs no memory.
+const MOST: usize = 6;
 
 fn number<N: FromStr>(word: &str) -> Option<N>
 where
@@ -9,7 +13,7 @@ where
     word.parse::<N>().ok()
 }
 
-pub fn call_of(words: &[&str]) -> Option<Call> {
+fn call_of(words: &[&str]) -> Option<Call> {
     Some(match words {
         ["bar", width, thickness, steel, edge] => Call::Bar {
             width: number(width)?,
@@ -43,4 +47,12 @@ pub fn call_of(words: &[&str]) -> Option<Call> {
         ["reopen"] => Call::Reopen,
         _ => return None,
     })
+}
+
+pub fn call_in(line: &str) -> Option<Call> {
+    let mut words = ArrayVec::<&str, MOST>::new();
+    for word in line.splitn(MOST, ' ') {
+        let _ = words.try_push(word);
+    }
+    call_of(words.as_slice())
 }
