@@ -26,16 +26,18 @@ impl Draft {
     pub fn word(&mut self, w: &[u8])
         ensures { Adds self.old w.now self.new }
     {
-        for b in w {
-            self.byte(*b);
-        }
+        let room = self.bytes.remaining_capacity();
+        let n = w.len().min(room);
+        let _ = self.bytes.try_extend_from_slice(&w[..n]);
     }
 
     // The number in decimal, with a minus sign before it where it is under 0.
     pub fn number<I: Integer>(&mut self, n: I)
         ensures { Adds self.old (I.text n) self.new }
     {
-        self.word(Buffer::new().format(n).as_bytes());
+        for b in Buffer::new().format(n).as_bytes() {
+            self.byte(*b);
+        }
     }
 
     // The first line of a section: its count and its name.
