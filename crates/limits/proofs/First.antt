@@ -1,7 +1,7 @@
 -- The first of the best: of one, of two lists put together, and what follows of it.
-use Rattle.std.proofs.Common.{◌≡◌, ℕ, suc, ◌+◌, List, [], ◌∷◌, ◌++◌, length, sym, refl, ap, ◌∙◌, subst}
+use Rattle.std.proofs.Common.{◌≡◌, ℕ, suc, ◌+◌, ◌<◌, List, [], ◌∷◌, ◌++◌, length, get_or, take, sym, refl, ap, ◌∙◌, subst, add-zero, arith}
 use Rattle.std.specs.List.{AllByRecursion}
-use Rattle.std.proofs.lemmas.List.{append_assoc, length-append}
+use Rattle.std.proofs.lemmas.List.{append_assoc, length-append, take_more, length-take-le}
 use Rattle.std.proofs.ByRecursion.{All-append, All-weaker}
 use Rattle.limits.specs.Foremost.{Foremost, Ranking}
 
@@ -37,9 +37,36 @@ module _ {X : Type 0} {beats : X → X → Type 0} (o : Ranking beats) where
         (All-weaker (λ x. beats x q → ⊥) (λ x. beats x p → ⊥) (λ x h. o.chain p q x less h) ys (none_beats v));
   }
 
+pub first_none : {X : Type 0} (beats : X → X → Type 0) (xs : List X) (d : X) → 0 < length xs → Foremost beats (take 1 xs) 0 (get_or xs 0 d)
+first_none beats [] d h = absurd (omega arith)
+first_none beats (x ∷ xs) d h = lone_first beats x
+
+-- a loop's step: the one at i does not beat the best so far, or does
+module _ {X : Type 0} {beats : X → X → Type 0} (o : Ranking beats) (xs : List X) (d : X) (i k : ℕ) (v : X)
+    (in' : i < length xs) (so : Foremost beats (take i xs) k v) where
+  pub first_keeps : (beats (get_or xs i d) v → ⊥) → Foremost beats (take (i + 1) xs) k v
+  first_keeps h =
+      subst (λ ys. Foremost beats ys k v) (sym (take_more xs i d in'))
+      (first_wins o so (lone_first beats (get_or xs i d)) h)
+
+  pub first_takes : beats (get_or xs i d) v → Foremost beats (take (i + 1) xs) i (get_or xs i d)
+  first_takes h =
+      let n : length (take i xs) ≡ i = length-take-le i xs (omega arith) in
+      subst (λ ys. Foremost beats ys i (get_or xs i d)) (sym (take_more xs i d in'))
+      (subst (λ m. Foremost beats (take i xs ++ get_or xs i d ∷ []) m (get_or xs i d)) (add-zero _ ∙ n)
+      (second_wins o so (lone_first beats (get_or xs i d)) h))
+
 all_at : {X : Type 0} (P : X → Type 0) (before after : List X) (r : X) → AllByRecursion P (before ++ (r ∷ after)) → P r
 all_at P [] after r h = h.0
 all_at P (x ∷ before) after r h = all_at P before after r h.1
+
+-- what holds of all holds of the first of the best
+pub all_foremost : {X : Type 0} {beats : X → X → Type 0} (P : X → Type 0) {xs : List X} {k : ℕ} {r : X} → Foremost beats xs k r → AllByRecursion P xs → P r
+all_foremost P {xs} {k} {r} w h = all_at P w.before w.after r (subst (AllByRecursion P) w.stands h)
+
+pub all_both : {X : Type 0} (P Q : X → Type 0) (xs : List X) → AllByRecursion P xs → AllByRecursion Q xs → AllByRecursion (λ x. P x × Q x) xs
+all_both P Q [] p q = tt
+all_both P Q (x ∷ xs) p q = ((p.0, q.0), all_both P Q xs p.1 q.1)
 
 -- the first of the best is one
 module _ {X : Type 0} {beats : X → X → Type 0} (o : Ranking beats) where
