@@ -1,14 +1,16 @@
 // A text checked: its page, or a line that says what is wrong and where.
-ghost use Rattle.std.specs.Prelude.{◌≡◌};
+ghost use Rattle.std.specs.Prelude.{◌≡◌, ◌^◌, ◌<◌, decimal};
+ghost use Rattle.sections.specs.Texts.{spelled};
 ghost use Rattle.text.specs.Drafts.{written};
 ghost use Rattle.archive.specs.Again.{PagesReadAgain};
 ghost use Rattle.archive.specs.Checks.{Sheets, Lays, Checks, refused_line};
+ghost use Rattle.archive.specs.Faults.{check_number};
 
 use crate::fault::{CheckFault, NoRoom};
 use limits::norm::norm;
 use reading::read::read;
 use sections::line::Piece::{Number, Word};
-use sections::line::write_line;
+use sections::line::{Piece, write_line};
 use sheet::{Closed, Joint, Open};
 use text::draft::Draft;
 use writing::page::page;
@@ -27,6 +29,14 @@ fn sheet_of(text: &[u8]) -> Result<Closed, CheckFault>
     Ok(open.close())
 }
 
+// The number of a fault, as it is written.
+fn number_of(fault: CheckFault) -> Piece<'static>
+    ensures says { spelled result ≡ decimal (check_number fault) }
+    ensures small { check_number fault < 2 ^ 64 }
+{
+    Number(fault.number().into())
+}
+
 // The line that says what is wrong and where.
 fn refusal_line(fault: CheckFault) -> Draft
     ensures { written result ≡ refused_line fault }
@@ -36,7 +46,7 @@ fn refusal_line(fault: CheckFault) -> Draft
         &mut draft,
         &[
             Word(b"refused"),
-            Number(fault.number().into()),
+            number_of(fault),
             Number(fault.line() as u64),
         ],
     );

@@ -17,6 +17,7 @@ use Rattle.reading.specs.Beginnings.{bar_named, barred, account_of}
 use Rattle.reading.specs.Fields.{Passed, BarFields}
 use Rattle.reading.specs.Shapes.{BarShape}
 use Rattle.reading.specs.Stages.{Leads, at_bar, with_bar}
+use Rattle.reading.specs.declared.fault.Cause.{Cause}
 use Rattle.reading.specs.declared.fault.Cause.TheVariants.{Malformed, Sheet}
 use Rattle.reading.specs.declared.fields.BarLine.{BarLine}
 use Rattle.reading.specs.declared.reader.Reader.{Reader}
@@ -57,8 +58,8 @@ module _ {was : Reader} where
   bar_malformed h = record { fault = λ text u at. inl (refl, h) }
 
   module _ (f : BarLine) {now : Cursor} (h : BarFields was.cursor f now) where
-    pub bar_unknown : {g : Fault} → (g ≡ UnknownSteel) × ((s : Steel) → f.steel.now ≢ steel_name s) → Wrong at_bar was (Sheet g)
-    bar_unknown p = record { fault = λ text u at. inr (inl (ap Sheet p.0, (bar_shape was.cursor now f h, p.1))) }
+    pub bar_unknown : {c : Cause} → (c ≡ Sheet UnknownSteel) × ((s : Steel) → f.steel.now ≢ steel_name s) → Wrong at_bar was c
+    bar_unknown p = record { fault = λ text u at. inr (inl (p.0, (bar_shape was.cursor now f h, p.1))) }
 
     module _ (s : Steel) (named : f.steel.now ≡ steel_name s) (k : ℕ) (its : k ≡ steel_number s) {r : Result (Unit {0}) Fault} where
       pub bar_refused : {g : Fault} {a : Account} → Bars (open_account was.sheet) f.width f.thickness k f.edge r a → r ≡ Err g → Wrong at_bar was (Sheet g)
