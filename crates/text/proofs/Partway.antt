@@ -1,8 +1,8 @@
 -- A line whose first pieces are taken.
-use Rattle.std.proofs.Common.{◌≡◌, ℕ, ◌+◌, ◌≤◌, List, [], ◌∷◌, ◌++◌, map, length, sym, ap, ◌∙◌, subst, append_assoc, arith}
+use Rattle.std.proofs.Common.{◌≡◌, ℕ, ◌+◌, ◌<◌, ◌≤◌, List, [], ◌∷◌, ◌++◌, map, length, sym, ap, ◌∙◌, subst, append_assoc, arith}
 use Rattle.std.proofs.lemmas.List.{map-append}
 use Rattle.std.specs.List.{AllByRecursion}
-use Rattle.text.specs.Words.{CutAt, Word, Spaced, Begun, NotOf}
+use Rattle.text.specs.Words.{CutAt, Spaced, Begun, NotOf}
 use Rattle.text.proofs.Cuts.{cut_once}
 use Rattle.text.proofs.Spaces.{NotBegun, not_more}
 
@@ -24,15 +24,13 @@ more_spaced {t} {w} {r} (v ∷ ws) h b s = record {
   words = (record { some = b.some; plain = b.cut.first }, s.words);
 }
 
--- what is cut off at a space, and is a piece
-pub word_cut : {t w r v : List ℕ} → CutAt 32 t w r → Word v → v ≡ w → Begun t v r
-word_cut {t} {w} {r} {v} c h e = record { some = h.some; cut = subst (λ x. CutAt 32 t x r) (sym e) c }
+-- what is cut off at a space is a piece, if it is something
+pub word_cut : {t w r v : List ℕ} → CutAt 32 t w r → 0 < length w → v ≡ w → Begun t v r
+word_cut {t} {w} {r} {v} c h e = record { some = omega (arith, ap length e); cut = subst (λ x. CutAt 32 t x r) (sym e) c }
 
--- and what is none
-pub word_first : {t w r : List ℕ} → CutAt 32 t w r → (Word w → ⊥) → NotBegun t
-word_first {t} {w} {r} c none v after b =
-    let e = (cut_once b.cut c).0 in
-    none (subst Word e (record { some = b.some; plain = b.cut.first }))
+-- and a line that begins with a space has none first
+pub empty_first : {t w r : List ℕ} → CutAt 32 t w r → length w ≡ 0 → NotBegun t
+empty_first c z v after b = omega (arith, ap length (cut_once c b.cut).0, b.some)
 
 pub partway_more : {P : Type 0} {said : P → List ℕ} {is_sound : ℕ → P → Type 0} {n at j : ℕ} {line rest after : List ℕ} {ps : List P} {p : P} (k : ℕ) → Partway said is_sound n line at ps j rest → j ≡ k + 1 → 1 ≤ k → Begun rest (said p) after → is_sound at p → Partway said is_sound n line at (ps ++ p ∷ []) k after
 partway_more {P} {said} {is_sound} {n} {at} {j} {line} {rest} {after} {ps} {p} k w e one b right = record {

@@ -1,6 +1,6 @@
 -- Where a line is so many pieces, and where not.
 use Rattle.std.proofs.Common.{◌≡◌, ℕ, ◌+◌, ◌≤◌, List, [], ◌∷◌, length, sym, refl, ap, ◌∙◌, subst, arith}
-use Rattle.text.specs.Words.{Lacks, Word, Spaced, spaced, Begun, NotOf}
+use Rattle.text.specs.Words.{Lacks, CutAt, Word, Spaced, spaced, Begun, NotOf}
 use Rattle.text.proofs.Cuts.{cut_once, no_cut}
 
 abbrev pub NotBegun : List ℕ → Type 0
@@ -8,6 +8,9 @@ NotBegun line = (w rest : List ℕ) → Begun line w rest → ⊥
 
 pub no_space : (t : List ℕ) → Lacks 32 t → NotBegun t
 no_space t h w r b = no_cut 32 t w r h b.cut.is
+
+pub several : {t x r : List ℕ} → CutAt 32 t x r → Word t → ⊥
+several {t} {x} {r} c w = no_cut 32 t x r w.plain c.is
 
 pub not_one : (t : List ℕ) → (Word t → ⊥) → NotOf 1 t
 not_one t h [] l s = absurd (omega arith)

@@ -87,10 +87,12 @@ impl<'a> Piece<'a> {
 fn one<'a, P: FromText<'a>>(text: &'a [u8], line: usize) -> Option<P>
     ensures { MatchOption result (WordText text.now → ⊥) (λ p. WordText (P.said p) × (P.said p ≡ text.now) × P.is_sound line p) }
 {
-    if text.is_empty() || text.contains(&b' ') {
-        None
-    } else {
-        Some(P::of(text, line))
+    if text.is_empty() {
+        return None;
+    }
+    match cut(text, b' ') {
+        None => Some(P::of(text, line)),
+        Some(_) => None,
     }
 }
 
@@ -104,8 +106,12 @@ pub fn pieces_of<'a, P: FromText<'a>, const N: usize>(text: &'a [u8], line: usiz
     };
     let mut rest = text;
     for piece in before {
+        // What is cut off at a space has none.
         let (word, after) = cut(rest, b' ')?;
-        *piece = one(word, line)?;
+        if word.is_empty() {
+            return None;
+        }
+        *piece = P::of(word, line);
         rest = after;
     }
     *last = one(rest, line)?;
