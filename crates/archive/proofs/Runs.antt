@@ -87,25 +87,25 @@ module _ (states : Details → List Rated) (calls : List Call) where
       record { order = λ k h. so.order k (omega arith); each_answered = so.count ∙ sym n; given = λ k h. so.each k (omega arith) }
 
   -- a call that is taken
-  pub ran_next : (i : ℕ) (answers more : List Answer) (s : State) (d : Call) (led : Option (State × Answer)) (next : State × Answer)
-      → ok_or led (OutOfOrder i) ≡ Ok next
+  pub ran_next : (i : ℕ) (answers more : List Answer) (s : State) (d : Call) (led : Option (State × Answer)) (next : State × Answer) (why : Halt)
+      → ok_or led why ≡ Ok next
       → Ran states calls i answers s → i < length calls
       → Leads states (account_of s) (opened s) (get_or calls i d) (Ok led) → more ≡ answers ++ (next.1 ∷ [])
       → Ran states calls (i + 1) more next.0
-  ran_next i answers more s d None next e so within wrong grown = absurd (cc)
-  ran_next i answers more s d (Some x) next e so within led grown =
+  ran_next i answers more s d None next why e so within wrong grown = absurd (cc)
+  ran_next i answers more s d (Some x) next why e so within led grown =
       let is : x ≡ next = cc in
       ran_more i answers more s next.0 d next.1 so within (subst (λ y. Led states (account_of s) (opened s) (get_or calls i d) y.0 y.1) is led) grown
 
   -- the first that is not
-  pub ran_wrong : (i : ℕ) (answers : List Answer) (s : State) (d : Call) (led : Option (State × Answer)) (why : Halt)
-      → ok_or led (OutOfOrder i) ≡ Err why
+  pub ran_wrong : (i : ℕ) (answers : List Answer) (s : State) (d : Call) (led : Option (State × Answer)) (why : Halt) {told : ℕ}
+      → told ≡ i → ok_or led (OutOfOrder told) ≡ Err why
       → Ran states calls i answers s → i < length calls
       → Leads states (account_of s) (opened s) (get_or calls i d) (Ok led) → Replays states calls (Err why)
-  ran_wrong i answers s d (Some next) why e so within led = absurd (cc)
-  ran_wrong i answers s d None why e so within wrong =
+  ran_wrong i answers s d (Some next) why place e so within led = absurd (cc)
+  ran_wrong i answers s d None why place e so within wrong =
       let is = get_or_default calls i d Judge within in
       let at : WrongAt calls i =
       record { within = within; before = so.order; wrong = (λ j. takes (sym so.standing j) (sym is j)) ∙ wrong } in
-      let why-is : OutOfOrder i ≡ why = cc in
+      let why-is : OutOfOrder i ≡ why = rw (← place) cc in
       subst (λ w. Replays states calls (Err w)) why-is at

@@ -16,5 +16,5 @@ before_nought (suc s ∷ ss) = rw (no_nought s, one-add) (ap (λ l. suc s ∷ l)
 or_end : (i n : ℕ) → i ≤ n → unwrap_or (cond (nat_lt i n) (Some i) None) n ≡ i
 or_end i n h = grind (arith, nat_tests)
 
-pub told_before : (ss : List ℕ) (n : ℕ) → n ≡ length ss → take (unwrap_or (position (λ n. n == 0) ss) n) ss ≡ told ss
-told_before ss n long = rw long (rw (or_end (position_or_len (λ n. n == 0) ss) (length ss) (prefix_len-le-length _ ss)) (before_nought ss))
+pub told_before : (ss : List ℕ) (n : ℕ) {k : ℕ} → k ≡ unwrap_or (position (λ n. n == 0) ss) n → n ≡ length ss → take k ss ≡ told ss
+told_before ss n here long = rw (here, long) (rw (or_end (position_or_len (λ n. n == 0) ss) (length ss) (prefix_len-le-length _ ss)) (before_nought ss))

@@ -18,13 +18,13 @@ pub returns-in_err-next : goal.returns-in_err-next
 returns-in_err-next g c =
     let p = err_from_is_err_and c.from_residual-in_err-next.result c.from_residual-in_err-next.ensures.1 in
     let out = sym c.ok_or.ensures.value ∙ c.in_err-next.was in
-    let halts = ran_wrong _ _ _ _ _ _ _ _ out c.loop-place.invariant c.loop-place-test.true c.in_ok-led.ensures in
+    let halts = ran_wrong _ _ _ _ _ _ _ _ (omega arith) out c.loop-place.invariant c.loop-place-test.true c.in_ok-led.ensures in
     let is = sym (p.1 ∙ ap Err p.2) in
     record { replays = subst (Replays _ _) is halts; holes = holes_stand; loads = loads_last; promises = subst (Promises _ _) is tt }
 
 pub loop-place-preserved : goal.loop-place-preserved
 loop-place-preserved g c =
-    ran_next _ _ _ _ _ _ _ _ _ (sym c.ok_or.ensures.value ∙ c.in_ok-next.was) c.loop-place.invariant c.loop-place-test.true c.in_ok-led.ensures c.in_ok-push.ensures.items
+    ran_next _ _ _ _ _ _ _ _ _ _ (sym c.ok_or.ensures.value ∙ c.in_ok-next.was) c.loop-place.invariant c.loop-place-test.true c.in_ok-led.ensures c.in_ok-push.ensures.items
 
 pub returns : goal.returns
 returns g c =

@@ -15,8 +15,8 @@ returns c =
     let rows = c.args.rows.now in
     let road = YieldsList-from_enumerate (YieldsList-at c.enumerate.ensures.source (YieldsList-from_slice rows c.iter.ensures.rest)) c.enumerate.ensures.count in
     let first = first_by_key (on_total (λ (r : Reverse Decinewtons). r.0) (back_total (on_total (λ (d : Decinewtons). d.0) int_cmp_total))) (λ (d : Decinewtons). record { 0 = d }) _ _ _ _ rows _ c.min_by_key.ensures.ran road (answers_always _ _ _ (λ f a r g h. search rules)) c.unwrap-place.ensures in
-    let all : (k : ℕ) → k < 19 → c.unwrap-least.result.now.0 ≤ℤ (row_at rows k).0 = λ k lt. search (rules, chains) in
-    let some : (k : ℕ) × (k < 19) × (c.unwrap-least.result.now ≡ row_at rows k) = search (rules, chains) in
+    let all : (k : ℕ) → k < 19 → c.unwrap-least.result.now.0 ≤ℤ (row_at rows k).0 = λ k lt. search (rules, chains, c.iter-2.ensures, c.min.ensures, c.unwrap-least.ensures) in
+    let some : (k : ℕ) × (k < 19) × (c.unwrap-least.result.now ≡ row_at rows k) = search (rules, chains, c.iter-2.ensures, c.min.ensures, c.unwrap-least.ensures) in
     let best = first.0 in
     let place = c.unwrap-place.result.0 in
     let long : length rows ≡ 19 = c.told-rows in

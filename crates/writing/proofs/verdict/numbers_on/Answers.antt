@@ -1,4 +1,4 @@
-use Rattle.std.proofs.Common.{◌≡◌, ◌==◌, arith, rules, tests}
+use Rattle.std.proofs.Common.{◌≡◌, ◌==◌, sym, arith, rules, tests}
 use Rattle.std.specs.List.{position}
 use Rattle.std.proofs.lemmas.Iterator.{YieldsList-from_slice}
 use Rattle.std.proofs.lemmas.Iterator.Search.{position_from_yields_List}
@@ -9,4 +9,4 @@ pub returns : goal.returns
 returns c =
     let found : c.position.result ≡ position (λ n. n == 0) c.args.slip.now =
     position_from_yields_List (λ n. n == 0) _ _ c.position.result c.position.ensures.ran (YieldsList-from_slice c.args.slip.now cc) (λ x b q k. search (rules, tests)) in
-    rw (c.unwrap_or-count.ensures, found) (told_before c.args.slip.now 32 (omega arith))
+    told_before c.args.slip.now 32 (rw (sym found, sym c.unwrap_or-count.ensures) (omega arith)) (omega arith)
